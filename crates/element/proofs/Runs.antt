@@ -1,0 +1,63 @@
+-- Tables of runs of bytes: a byte in a run and out of it, and an interval of bytes that no run cuts.
+-- Assumes nothing.
+use Prim.Native.Nat.{ℕ, suc, _≤_, _<_}
+use mathlib.Core.Path.{_≡_, refl}
+use mathlib.Core.Bool.{Bool, true, false, cond, _&&_, _||_}
+use mathlib.Core.List.{List, [], _∷_}
+use mathlib.Core.Logic.{_⊎_, inl, inr, ⊎-elim}
+use native.Mathlib.Nat.{eq-or-lt-of-le}
+use native.Mathlib.Omega.{arith}
+use lib.Dec.{T, leb, ltb, leb→le, ltb→lt}
+use borrow.Author.Tests.{leb-true, leb-false, le-leb, lt-leb}
+use Rattle.element.specs.declared.Form.{Form}
+use Rattle.element.specs.Element.{Entry, run, within, lookup}
+
+pub inside : (first last b : ℕ) → first ≤ b → b ≤ last → within first last b ≡ true
+inside first last b l u = simp (le-leb _ _ l, le-leb _ _ u)
+
+pub outside : (first last b : ℕ) → (first ≤ b → b ≤ last → ⊥) → within first last b ≡ false
+outside first last b out = low (leb first b) refl (leb b last) refl
+  where
+    low : (x : Bool) → leb first b ≡ x → (y : Bool) → leb b last ≡ y → (leb first b && leb b last) ≡ false
+    low true e true f = absurd (out (leb-true _ _ e) (leb-true _ _ f))
+    low true e false f = rw (e, f)
+    low false e y f = rw e
+
+-- whether no entry cuts the bytes from lo up to, not including, hi: each holds all of them or none, up to the first that holds them
+abbrev pub uncut : List Entry → (lo hi : ℕ) → Bool
+uncut [] lo hi = true
+uncut (run first last f ∷ es) lo hi =
+    cond (leb hi first || ltb last lo) (uncut es lo hi) (leb first lo && leb hi (suc last))
+
+either : (a b : Bool) → T (a || b) → T a ⊎ T b
+either true b t = inl tt
+either false b t = inr t
+
+both : (a b : Bool) → T (a && b) → T a × T b
+both true true t = (tt, tt)
+both true false t = absurd t
+both false b t = absurd t
+
+-- such an interval has one form
+pub same-run : (es : List Entry) {lo hi b : ℕ} → lo ≤ b → b < hi → T (uncut es lo hi) → lookup es b ≡ lookup es lo
+same-run [] l u t = refl
+same-run (run first last f ∷ es) {lo} {hi} {b} l u t =
+    go (leb hi first || ltb last lo) (λ s. s) (λ s. same-run es l u s) t
+  where
+    go : (k : Bool) → (T k → T (leb hi first || ltb last lo)) → (T (uncut es lo hi) → lookup es b ≡ lookup es lo)
+        → T (cond k (uncut es lo hi) (leb first lo && leb hi (suc last)))
+        → cond (within first last b) f (lookup es b) ≡ cond (within first last lo) f (lookup es lo)
+    go true e rest s =
+        ⊎-elim
+        (λ q. let h : hi ≤ first = leb→le _ _ q in simp (outside first last b (λ m n. omega arith), outside first last lo (λ m n. omega arith)) (rest s))
+        (λ q. let h : last < lo = ltb→lt _ _ q in simp (outside first last b (λ m n. omega arith), outside first last lo (λ m n. omega arith)) (rest s))
+        (either (leb hi first) (ltb last lo) (e tt))
+    go false e rest s =
+        let p = both (leb first lo) (leb hi (suc last)) s in
+        let h : first ≤ lo = leb→le _ _ (p .0) in
+        let k : hi ≤ suc last = leb→le _ _ (p .1) in
+        simp (inside first last b (omega arith) (omega arith), inside first last lo (omega arith) (omega arith))
+
+-- a lower bound rises past a byte that is excluded
+pub above : {n b : ℕ} → n ≤ b → (b ≡ n → ⊥) → suc n ≤ b
+above h ne = ⊎-elim (λ e. absurd (ne (omega arith))) (λ l. l) (eq-or-lt-of-le h)

@@ -1,0 +1,89 @@
+-- Document 01, "Element bytes (hex)" and "The grammar": the code bytes that each place allows, and what follows each of them.
+use Prim.Native.Nat.{ℕ}
+use mathlib.Core.List.{List, [], _∷_}
+use mathlib.Core.Bool.{Bool, cond, _&&_}
+use lib.Dec.{leb}
+use Rattle.element.specs.declared.Place.{Place}
+use Rattle.element.specs.declared.Place.the-variants as Place
+use Rattle.element.specs.declared.Form.{Form}
+use Rattle.element.specs.declared.Form.the-variants.{Refused, Leaf, Named, Variable, Wrap, Modified, Counted, Array, Instance, FnPtr, Callable, Generic}
+
+-- the bytes from the first to the last, and their form
+pub data Entry : Type 0 where
+  run : (first last : ℕ) → Form → Entry
+
+abbrev pub one : ℕ → Form → Entry
+one b f = run b b f
+
+abbrev pub within : (first last : ℕ) → ℕ → Bool
+within first last b = leb first b && leb b last
+
+-- the form of the first entry that has the byte; a byte that no entry has is refused
+abbrev pub lookup : List Entry → ℕ → Form
+lookup [] b = Refused
+lookup (run first last f ∷ rest) b = cond (within first last b) f (lookup rest b)
+
+-- "Bare: 02..0E, 18, 19, 1C; or 11 or 12 with a TypeDef or TypeRef token; or 0F, Mods, then VOID or Bare; or 1D Type; or 14 Type
+-- Shape; or 15 ..; or 13 or 1E and a number; or 1B and a Method"
+unfoldable pub bare : List Entry
+bare =
+    run 0x02 0x0E Leaf
+    ∷ run 0x18 0x19 Leaf
+    ∷ one 0x1C Leaf
+    ∷ run 0x11 0x12 Named
+    ∷ one 0x0F (Wrap Place.Pointee)
+    ∷ one 0x1D (Wrap Place.Type)
+    ∷ one 0x14 Array
+    ∷ one 0x15 Instance
+    ∷ one 0x13 Variable
+    ∷ one 0x1E Variable
+    ∷ one 0x1B FnPtr
+    ∷ []
+
+-- "Mod: 1F or 20, then a token of any of the three tags": modifiers before what stands in the place p
+abbrev pub mods : Place → Entry
+mods p = run 0x1F 0x20 (Modified p)
+
+abbrev pub void : Entry
+void = one 0x01 Leaf
+
+-- "10 Type"
+abbrev pub byRef : Entry
+byRef = one 0x10 (Wrap Place.Type)
+
+abbrev pub typedByRef : Entry
+typedByRef = one 0x16 Leaf
+
+-- "Method: a lead byte 00, 05, 20, 25, 60 or 65"
+unfoldable pub leads : List Entry
+leads =
+    one 0x00 Callable ∷ one 0x05 Callable ∷ one 0x20 Callable ∷ one 0x25 Callable ∷ one 0x60 Callable ∷ one 0x65 Callable ∷ []
+
+unfoldable pub entries : Place → List Entry
+-- "Type: Mods, then Bare"
+entries Place.Type = mods Place.Type ∷ bare
+-- "Mods, then VOID or Bare"
+entries Place.Pointee = mods Place.Pointee ∷ void ∷ bare
+-- "Param: Mods, then Bare, 10 Type, or 16"
+entries Place.Param = mods Place.Param ∷ byRef ∷ typedByRef ∷ bare
+-- "RetType: the same, or 01"
+entries Place.RetType = mods Place.RetType ∷ byRef ∷ typedByRef ∷ void ∷ bare
+-- "Local: Mods, then Bare, 16, 10 Type, 45 Type, or 45 10 Type"
+entries Place.Local = mods Place.Local ∷ typedByRef ∷ byRef ∷ one 0x45 (Wrap Place.Pinned) ∷ bare
+entries Place.Pinned = byRef ∷ mods Place.Type ∷ bare
+-- "TypeSpec: Mods, then Bare, 01 or 16; but a first byte of 11 or 12 is refused"
+entries Place.TypeSpec = run 0x11 0x12 Refused ∷ mods Place.ModifiedSpec ∷ void ∷ typedByRef ∷ bare
+entries Place.ModifiedSpec = mods Place.ModifiedSpec ∷ void ∷ typedByRef ∷ bare
+-- "under FNPTR those three are refused"
+entries Place.FnPtrMethod = leads
+-- "FieldSig: 06 Type"
+entries Place.FieldSig = one 0x06 (Wrap Place.Type) ∷ []
+-- "LocalVarSig: 07, a count of at least 1, that many Locals"
+entries Place.LocalVarSig = one 0x07 (Counted Place.Local) ∷ []
+-- "PropertySig: 08 or 28, ParamCount, RetType, Params"
+entries Place.PropertySig = one 0x08 Callable ∷ one 0x28 Callable ∷ []
+-- "As kind 4 also 10, 30 or 70, followed by a generic count of at least 1 before ParamCount"
+entries Place.MethodDefSig = one 0x10 Generic ∷ one 0x30 Generic ∷ one 0x70 Generic ∷ leads
+
+unfoldable pub formOf : Place → ℕ → Form
+formOf p b = lookup (entries p) b

@@ -1,0 +1,3 @@
+pub mod Number
+pub mod Checked
+pub mod Token

@@ -1,0 +1,40 @@
+// Numbers after their checks, with the refusal's number where one fails.
+ghost use mathlib.Core.Path.{_≡_};
+ghost use Rattle.number.specs.Checked.{checkedAt, countAt};
+use crate::Number;
+
+// A number that passed its checks and the offset after it, or the number of its refusal. The refusal's place is the number's start.
+pub enum Checked {
+    Good { value: u32, next: usize },
+    Bad { code: u32 },
+}
+
+// The number at the offset `at`.
+pub fn checked_at(s: &[u8], at: usize) -> Checked
+    ensures { λ r. ⌜ r ≡ checkedAt (now (s .entry)) at ⌝ }
+{
+    match crate::number_at(s, at) {
+        Number::Value { value, next } => Checked::Good { value, next },
+        Number::Cut => Checked::Bad { code: 2 },
+        Number::BadByte => Checked::Bad { code: 3 },
+        Number::TooLong => Checked::Bad { code: 3 },
+    }
+}
+
+// The number at the offset `at`, which has to be from `low` to `high`.
+pub fn count_at(s: &[u8], at: usize, low: u32, high: u32) -> Checked
+    ensures { λ r. ⌜ r ≡ countAt low high (now (s .entry)) at ⌝ }
+{
+    match checked_at(s, at) {
+        Checked::Good { value, next } => {
+            if value < low {
+                return Checked::Bad { code: 4 };
+            }
+            if high < value {
+                return Checked::Bad { code: 4 };
+            }
+            Checked::Good { value, next }
+        }
+        Checked::Bad { code } => Checked::Bad { code },
+    }
+}
