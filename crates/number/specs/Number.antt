@@ -15,6 +15,10 @@ Bytes s = (i : ℕ) → getD s i 0 < 256
 abbrev pub limit : ℕ
 limit = 0x20000000
 
+-- the greatest of them
+abbrev pub maxNumber : ℕ
+maxNumber = 0x1FFFFFFF
+
 -- "one byte 00 to 7F; two bytes, first 80 to BF, 14 bits of value; or four bytes, first C0 to DF, 29 bits; most significant byte
 -- first", in the shortest form that holds the number. From `limit` on a number has no encoding, which is no bytes here.
 unfoldable pub encode : ℕ → List ℕ

@@ -1,0 +1,8 @@
+pub mod Limits
+pub mod Kinds
+pub mod Table
+pub mod Judge
+pub mod Derives
+pub mod Emit
+pub mod Writer
+pub mod Bench
