@@ -6,3 +6,4 @@ pub mod Layouts
 pub mod Emits
 pub mod Reading
 pub mod Writing
+pub mod Refusals

@@ -5,4 +5,3 @@ pub mod Judge
 pub mod Derives
 pub mod Emit
 pub mod Writer
-pub mod Bench
