@@ -86,14 +86,15 @@ pub fn number_len(v: u32) -> usize
     ensures { λ r. ⌜ r ≡ length (encode v) ⌝ }
 {
     if v < 0x80 {
-        1
-    } else if v < 0x4000 {
-        2
-    } else if v < 0x20000000 {
-        4
-    } else {
-        0
+        return 1;
     }
+    if v < 0x4000 {
+        return 2;
+    }
+    if v < 0x20000000 {
+        return 4;
+    }
+    0
 }
 
 // Writes the encoding of `v` at the offset `at` where it fits, and else nothing. The result is the number of its bytes in either case.
