@@ -10,6 +10,7 @@ use native.Mathlib.Omega.{arith}
 use lib.Dec.{T, leb, ltb, leb→le, ltb→lt}
 use borrow.Author.Tests.{leb-true, leb-false, le-leb, lt-leb}
 use Rattle.element.specs.declared.Form.{Form}
+use Rattle.element.specs.declared.Form.the-variants.{Refused}
 use Rattle.element.specs.Element.{Entry, run, within, lookup}
 
 pub inside : (first last b : ℕ) → first ≤ b → b ≤ last → within first last b ≡ true
@@ -61,3 +62,18 @@ same-run (run first last f ∷ es) {lo} {hi} {b} l u t =
 -- a lower bound rises past a byte that is excluded
 pub above : {n b : ℕ} → n ≤ b → (b ≡ n → ⊥) → suc n ≤ b
 above h ne = ⊎-elim (λ e. absurd (ne (omega arith))) (λ l. l) (eq-or-lt-of-le h)
+
+-- a test of forms that all entries pass, and Refused too, is passed by the form of every byte
+abbrev pub allForms : (Form → Bool) → List Entry → Bool
+allForms test [] = true
+allForms test (run first last f ∷ es) = test f && allForms test es
+
+pub lookup-passes : (test : Form → Bool) (es : List Entry) (b : ℕ) → test Refused ≡ true → allForms test es ≡ true → test (lookup es b) ≡ true
+lookup-passes test [] b r e = r
+lookup-passes test (run first last f ∷ es) b r e =
+    go (test f) (allForms test es) refl e (within first last b) (λ a. lookup-passes test es b r a)
+  where
+    go : (x y : Bool) → test f ≡ x → x && y ≡ true → (t : Bool) → (y ≡ true → test (lookup es b) ≡ true) → test (cond t f (lookup es b)) ≡ true
+    go true y p q true k = p
+    go true y p q false k = k q
+    go false y p q t k = cc

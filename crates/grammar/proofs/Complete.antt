@@ -115,6 +115,7 @@ module _ (s : List ℕ) where
 
   many-back : (X : Span) (item : ℕ → ℕ → Out) → Reads X item → {k at n at′ n′ z : ℕ} {bs : List ℕ} {rs : List Node}
       → Many X k at n at′ n′ bs rs → Stands s at bs z → Meets (many item k at n) at′ n′ rs z
+  unfolding many
   many-back X item f none h = record { gives = refl; ends = sym (h .here) }
   many-back X item f (more {k} {at} {n} {at₁} {n₁} {bs = bs} {cs = cs} x r) h =
       bind-front bs cs (item at n) _ (λ m u. f .run x u) h

@@ -14,7 +14,7 @@ use Rattle.number.specs.declared.token.Counts.{Counts}
 use Rattle.element.specs.declared.Place.{Place}
 use Rattle.element.specs.declared.Place.the-variants as Place
 use Rattle.grammar.specs.Limits.{maxNodes, maxDepth}
-use Rattle.grammar.specs.Table.{entry, kindOf, SIZE, LOW, flat, recordAt}
+use Rattle.grammar.specs.Table.{entry, kindOf, SIZE, LOW, six, flat, recordAt}
 use Rattle.grammar.specs.Derives.{Span, Numeral, Many, none, more, Bound, bounded, Call, call, Step, leaf, named, variable, wrap, modified, counted, array, inst, fnptr, method, generic, Derives}
 use Rattle.grammar.specs.Emit.{Layout, layoutOf, partsOf, Emitted, torn, wrote, andThen, spell, times, parts, emit}
 use Rattle.grammar.specs.declared.Node.{Node}
@@ -36,9 +36,6 @@ pub length-flat : (rs : List Node) → length (flat rs) ≡ 6 * length rs
 unfolding flat
 length-flat [] = refl
 length-flat (r ∷ rs) = let z = length-flat rs in omega arith
-
-abbrev six : Node → List ℕ
-six r = r .kind ∷ r .a ∷ r .b ∷ r .children ∷ r .at ∷ r .after ∷ []
 
 record-at : (r : Node) (rest pre : List ℕ) (n : ℕ) → length pre ≡ 6 * n → recordAt (pre ++ (six r ++ rest)) n ≡ r
 record-at r rest pre n h =

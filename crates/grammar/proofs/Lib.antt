@@ -7,3 +7,4 @@ pub mod Emits
 pub mod Reading
 pub mod Writing
 pub mod Refusals
+pub mod Bounds

@@ -90,6 +90,7 @@ module _ (s : List ℕ) where
   -- ---- nodes
 
   told-many : (item : ℕ → ℕ → Out) → ((at n : ℕ) → Told (item at n)) → (k at n : ℕ) → Told (many item k at n)
+  unfolding many
   told-many item f zero at n = fine
   told-many item f (suc k) at n =
       told-bind (item at n) _ (f at n) (λ at₁ n₁ rs. told-bind (many item k at₁ n₁) _ (told-many item f k at₁ n₁) (λ at₂ n₂ ts. fine))

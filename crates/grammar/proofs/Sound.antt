@@ -56,6 +56,15 @@ holds-map : {P Q : ℕ → ℕ → List Node → Type 0} {o : Out} → Holds Q o
 holds-map stopped f = stopped
 holds-map (holds {a} {n} {rs} q) f = holds (f a n rs q)
 
+-- a node that begins: its byte is there, and there is room for it
+pub holds-opened : {P : ℕ → ℕ → List Node → Type 0} (s : List ℕ) (d : ℕ) (p : Place) (at n : ℕ) (k : ℕ → Form → Out)
+    → (at < length s → n < maxNodes → Holds P (k (getD s at 0) (formOf p (getD s at 0)))) → Holds P (opened d s p at n k)
+holds-opened s d p at n k f =
+    holds-check (ltb at (length s)) 2 at _
+    (λ e₁. holds-check (allowed (formOf p (getD s at 0))) 5 at _
+    (λ e₂. holds-check (leb 1 d) 6 at _
+    (λ e₃. holds-check (ltb n maxNodes) 10 at _ (λ e₄. f (ltb-true _ _ e₁) (ltb-true _ _ e₄)))))
+
 module _ (s : List ℕ) (bytes : Bytes s) where
   -- the bytes from a to z that X derives
   abbrev pub Found : Span → ℕ → ℕ → ℕ → ℕ → List Node → Type 0
@@ -132,6 +141,7 @@ module _ (s : List ℕ) (bytes : Bytes s) where
 
   holds-many : (X : Span) (item : ℕ → ℕ → Out) → ((at n : ℕ) → Holds (Found X at n) (item at n))
       → (k at n : ℕ) → Holds (Found (Many X k) at n) (many item k at n)
+  unfolding many
   holds-many X item g zero at n = holds ([], none, nothing)
   holds-many X item g (suc k) at n =
       holds-bind (item at n) _ (g at n)
@@ -219,17 +229,9 @@ module _ (s : List ℕ) (bytes : Bytes s) where
         (λ at′ n′ rs r. rw (r .2)
         (b ∷ (gb ++ r .3 .0), generic (record { form = e; room = room }) w (e₁ .0) (r .3 .1), byte l eb (join h (r .3 .2)))))
 
-  holds-opened : {P : ℕ → ℕ → List Node → Type 0} (d : ℕ) (p : Place) (at n : ℕ) (k : ℕ → Form → Out)
-      → (at < length s → n < maxNodes → Holds P (k (getD s at 0) (formOf p (getD s at 0)))) → Holds P (opened d s p at n k)
-  holds-opened d p at n k f =
-      holds-check (ltb at (length s)) 2 at _
-      (λ e₁. holds-check (allowed (formOf p (getD s at 0))) 5 at _
-      (λ e₂. holds-check (leb 1 d) 6 at _
-      (λ e₃. holds-check (ltb n maxNodes) 10 at _ (λ e₄. f (ltb-true _ _ e₁) (ltb-true _ _ e₄)))))
-
   pub holds-node : (d : ℕ) (counts : Counts) (p : Place) (at n : ℕ) → Holds (Found (Derives d counts p) at n) (node d s counts p at n)
   unfolding node
-  holds-node zero counts p at n = holds-opened zero p at n (λ b f. fault 6 at) (λ l r. stopped)
+  holds-node zero counts p at n = holds-opened s zero p at n (λ b f. fault 6 at) (λ l r. stopped)
   holds-node (suc d) counts p at n =
-      holds-opened (suc d) p at n (λ b f. body (node d s) d s counts (kindOf p b) b at n f)
+      holds-opened s (suc d) p at n (λ b f. body (node d s) d s counts (kindOf p b) b at n f)
       (λ l r. holds-body (Derives d) (node d s) (holds-node d) d counts p (getD s at 0) at n l refl r (formOf p (getD s at 0)) refl)

@@ -51,7 +51,7 @@ abbrev pub token : (tags : ℕ) → Counts → List ℕ → ℕ → (ℕ → ℕ
 token tags counts s at k = numbered (tokenAt tags counts s at) at k
 
 -- k nodes one after the other
-abbrev pub many : (ℕ → ℕ → Out) → ℕ → ℕ → ℕ → Out
+unfoldable pub many : (ℕ → ℕ → Out) → ℕ → ℕ → ℕ → Out
 many item zero at n = done at n []
 many item (suc k) at n = bind (item at n) (λ at₁ n₁ rs. bind (many item k at₁ n₁) (λ at₂ n₂ ts. done at₂ n₂ (rs ++ ts)))
 
@@ -74,6 +74,18 @@ callable read s counts kind a b at n from =
     (λ c next. bind (read counts Place.RetType next (n + 1))
     (λ at₁ n₁ rs. bind (many (read counts Place.Param) c at₁ n₁)
     (λ at₂ n₂ ts. done at₂ n₂ (entry kind a b (c + 1) at n₂ ∷ (rs ++ ts)))))
+
+-- "14 Type Shape"; "Shape: Rank 1 to 32; NumSizes at most Rank and that many numbers; NumLoBounds at most Rank and that many numbers";
+-- "ARRAY: a Rank, b NumSizes; children are the type, SIZEs, LOWs (value in a)"
+abbrev pub array : Reader → (d : ℕ) → List ℕ → Counts → (kind at n : ℕ) → Out
+array read d s counts kind at n =
+    bind (read counts Place.Type (at + 1) (n + 1))
+    (λ at₁ n₁ ts. count 1 maxRank s at₁
+    (λ rank at₂. count 0 rank s at₂
+    (λ sizes at₃. bind (many (bound SIZE d s) sizes at₃ n₁)
+    (λ at₄ n₂ ss. count 0 rank s at₄
+    (λ lows at₅. bind (many (bound LOW d s) lows at₅ n₂)
+    (λ at₆ n₃ ls. done at₆ n₃ (entry kind rank sizes (1 + sizes + lows) at n₃ ∷ (ts ++ (ss ++ ls)))))))))
 
 -- What follows the code byte b, which stands at `at` and begins the node with index n; d levels are left below it. "Unused a and b
 -- are 0."
@@ -98,16 +110,7 @@ body read d s counts kind b at n (Counted p) =
     count 1 maxNumber s (at + 1)
     (λ c next. bind (many (read counts p) c next (n + 1))
     (λ at₁ n₁ rs. done at₁ n₁ (entry kind 0 0 c at n₁ ∷ rs)))
--- "14 Type Shape"; "Rank 1 to 32; NumSizes at most Rank and that many numbers; NumLoBounds at most Rank and that many numbers";
--- "ARRAY: a Rank, b NumSizes; children are the type, SIZEs, LOWs (value in a)"
-body read d s counts kind b at n Array =
-    bind (read counts Place.Type (at + 1) (n + 1))
-    (λ at₁ n₁ ts. count 1 maxRank s at₁
-    (λ rank at₂. count 0 rank s at₂
-    (λ sizes at₃. bind (many (bound SIZE d s) sizes at₃ n₁)
-    (λ at₄ n₂ ss. count 0 rank s at₄
-    (λ lows at₅. bind (many (bound LOW d s) lows at₅ n₂)
-    (λ at₆ n₃ ls. done at₆ n₃ (entry kind rank sizes (1 + sizes + lows) at n₃ ∷ (ts ++ (ss ++ ls)))))))))
+body read d s counts kind b at n Array = array read d s counts kind at n
 -- "15, then 11 or 12, a TypeDef or TypeRef token, a count of at least 1, and that many Types"; "GENERICINST: a token, b 11 or 12"
 body read d s counts kind b at n Instance =
     check (ltb (at + 1) (length s)) 2 (at + 1)

@@ -1,6 +1,6 @@
 -- Document 01, "The node table": a node's record, the kinds that are no element bytes, and the flat list of numbers.
 use Prim.Native.Nat.{ℕ, _+_, _*_}
-use mathlib.Core.List.{List, [], _∷_}
+use mathlib.Core.List.{List, [], _∷_, _++_}
 use lib.ListN.{getD}
 use Rattle.element.specs.declared.Place.{Place}
 use Rattle.element.specs.declared.Place.the-variants as Place
@@ -46,9 +46,12 @@ kindOf Place.PropertySig b = PROPERTY
 kindOf Place.MethodDefSig b = METHOD
 
 -- "A flat list of 32-bit numbers, six to a record"
+abbrev pub six : Node → List ℕ
+six r = r .kind ∷ r .a ∷ r .b ∷ r .children ∷ r .at ∷ r .after ∷ []
+
 unfoldable pub flat : List Node → List ℕ
 flat [] = []
-flat (r ∷ rs) = r .kind ∷ r .a ∷ r .b ∷ r .children ∷ r .at ∷ r .after ∷ flat rs
+flat (r ∷ rs) = six r ++ flat rs
 
 -- the record with index n of a flat list
 abbrev pub recordAt : List ℕ → ℕ → Node

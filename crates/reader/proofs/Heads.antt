@@ -1,0 +1,160 @@
+-- What the functions before a node's children give, from facts about the bytes: one law for each way out.
+-- Assumes nothing.
+use Prim.Native.Nat.{ℕ, _+_, _≤_, _<_}
+use native.Mathlib.Omega.{arith}
+use mathlib.Core.Path.{_≡_, refl, sym, subst, _∙_}
+use mathlib.Core.Bool.{Bool, true, false, cond, _&&_}
+use mathlib.Core.List.{List}
+use lib.ListN.{length, getD}
+use lib.Dec.{leb}
+use borrow.Author.Tests.{lt-ltb, le-ltb, le-leb, lt-leb, leb-true}
+use Rattle.number.specs.Number.{Bytes, limit, numberAt}
+use Rattle.number.specs.Checked.{checked, checkedAt, countOf, countAt}
+use Rattle.number.specs.declared.Number.{Number}
+use Rattle.number.specs.declared.Number.the-variants.{Value, Cut, BadByte, TooLong}
+use Rattle.number.specs.declared.checked.Checked.{Checked}
+use Rattle.number.specs.declared.checked.Checked.the-variants.{Good, Bad}
+use Rattle.number.specs.declared.token.Counts.{Counts}
+use Rattle.number.proofs.Laws.{decoded, onward}
+use Rattle.element.specs.Element.{within, formOf}
+use Rattle.element.specs.declared.Place.{Place}
+use Rattle.element.specs.declared.Form.{Form}
+use Rattle.element.specs.declared.Form.the-variants.{Instance}
+use Rattle.element.proofs.Runs.{inside, outside}
+use Rattle.grammar.specs.Limits.{maxNodes}
+use Rattle.grammar.specs.Table.{kindOf}
+use Rattle.grammar.specs.Judge.{allowed}
+use Rattle.grammar.proofs.Sound.{both-right}
+use Rattle.reader.specs.Open.{codeAt, opening, instanceOf, headOf, openOf, openCode, leading, leadForm, leadOf, leadCode}
+use Rattle.reader.specs.declared.open.Code.{Code}
+use Rattle.reader.specs.declared.open.Code.the-variants as Code
+use Rattle.reader.specs.declared.open.Open.{Open}
+use Rattle.reader.specs.declared.open.Open.the-variants as Open
+use Rattle.reader.specs.declared.open.Lead.{Lead}
+use Rattle.reader.specs.declared.open.Lead.the-variants as Lead
+use Rattle.reader.proofs.Opens.{Begun, begun, code-begun}
+
+-- ---- numbers. y is what the call gave, and its contract says that it is x
+
+module _ (y x : Checked) (from : ℕ) (e : y ≡ x) where
+  pub opening-bad : (k : ℕ → ℕ → Open) (c : ℕ) → y ≡ Bad c → Open.Shut c from ≡ opening x from k
+  unfolding opening
+  opening-bad k c g = rw (sym e ∙ g)
+
+  pub opening-good : (k : ℕ → ℕ → Open) (v next : ℕ) (o : Open) → y ≡ Good v next → o ≡ k v next → o ≡ opening x from k
+  unfolding opening
+  opening-good k v next o g h = rw (sym e ∙ g) h
+
+  pub leading-bad : (k : ℕ → ℕ → Lead) (c : ℕ) → y ≡ Bad c → Lead.Shut c from ≡ leading x from k
+  unfolding leading
+  leading-bad k c g = rw (sym e ∙ g)
+
+  pub leading-good : (k : ℕ → ℕ → Lead) (v next : ℕ) (o : Lead) → y ≡ Good v next → o ≡ k v next → o ≡ leading x from k
+  unfolding leading
+  leading-good k v next o g h = rw (sym e ∙ g) h
+
+-- a number that was read is below 2^29
+pub small : (s : List ℕ) (at v next : ℕ) (y : Checked) → Bytes s → y ≡ checkedAt s at → y ≡ Good v next → v < limit
+unfolding checkedAt checked
+small s at v next y bytes e g = go (numberAt s at) refl (sym e ∙ g)
+  where
+    go : (o : Number) → numberAt s at ≡ o → checked o ≡ Good v next → v < limit
+    go (Value x z) q h = let a : x ≡ v = cc in let b = decoded s at x z bytes q .small in omega arith
+    go Cut q h = let z : _≡_ {A = ℕ} 0 1 = cc in absurd (omega arith)
+    go BadByte q h = let z : _≡_ {A = ℕ} 0 1 = cc in absurd (omega arith)
+    go TooLong q h = let z : _≡_ {A = ℕ} 0 1 = cc in absurd (omega arith)
+
+-- a number that was read begins within the bytes
+pub number-here : (s : List ℕ) (at v next : ℕ) (y : Checked) → y ≡ checkedAt s at → y ≡ Good v next → at < length s
+unfolding checkedAt checked
+number-here s at v next y e g = go (numberAt s at) refl (sym e ∙ g)
+  where
+    go : (o : Number) → numberAt s at ≡ o → checked o ≡ Good v next → at < length s
+    go (Value x z) q h = let k = onward s at x z q in omega arith
+    go Cut q h = let z : _≡_ {A = ℕ} 0 1 = cc in absurd (omega arith)
+    go BadByte q h = let z : _≡_ {A = ℕ} 0 1 = cc in absurd (omega arith)
+    go TooLong q h = let z : _≡_ {A = ℕ} 0 1 = cc in absurd (omega arith)
+
+-- a count is at most what it may be
+pub count-most : (low high : ℕ) (s : List ℕ) (at v next : ℕ) (y : Checked) → y ≡ countAt low high s at → y ≡ Good v next → v ≤ high
+unfolding countAt countOf
+count-most low high s at v next y e g = go (checkedAt s at) (sym e ∙ g)
+  where
+    inner : (x z : ℕ) (t : Bool) → (t ≡ true → x ≤ high) → cond t (Good x z) (Bad 4) ≡ Good v next → v ≤ high
+    inner x z true f h = let a : x ≡ v = cc in let b = f refl in omega arith
+    inner x z false f h = let z : _≡_ {A = ℕ} 0 1 = cc in absurd (omega arith)
+
+    go : (o : Checked) → countOf low high o ≡ Good v next → v ≤ high
+    go (Good x z) h = inner x z (leb low x && leb x high) (λ q. leb-true x high (both-right (leb low x) _ q)) h
+    go (Bad c) h = let z : _≡_ {A = ℕ} 0 1 = cc in absurd (omega arith)
+
+-- ---- code_at
+
+module _ (d : ℕ) (s : List ℕ) (p : Place) (at n : ℕ) where
+  pub code-none : length s ≤ at → Code.Shut 2 ≡ codeAt d s p at n
+  unfolding codeAt
+  code-none h = rw (le-ltb at (length s) h)
+
+  module _ (f : Form) (h : at < length s) (e : f ≡ formOf p (getD s at 0)) (a : Bool) (t : a ≡ allowed f) where
+    pub code-refused : a ≡ false → Code.Shut 5 ≡ codeAt d s p at n
+    unfolding codeAt
+    code-refused g = rw (lt-ltb at (length s) h, ← e, sym t ∙ g)
+
+    module _ (g : a ≡ true) where
+      pub code-deep : d ≡ 0 → Code.Shut 6 ≡ codeAt d s p at n
+      unfolding codeAt
+      code-deep z = rw (lt-ltb at (length s) h, ← e, sym t ∙ g, z)
+
+      pub code-full : (d ≡ 0 → ⊥) → maxNodes ≤ n → Code.Shut 10 ≡ codeAt d s p at n
+      unfolding codeAt
+      code-full z m = let i : 1 ≤ d = omega arith in rw (lt-ltb at (length s) h, ← e, sym t ∙ g, le-leb 1 d i, le-ltb n maxNodes m)
+
+      pub code-opens : (d ≡ 0 → ⊥) → n < maxNodes → Code.Opens (getD s at 0) f ≡ codeAt d s p at n
+      unfolding codeAt
+      code-opens z m = let i : 1 ≤ d = omega arith in rw (lt-ltb at (length s) h, ← e, sym t ∙ g, le-leb 1 d i, lt-ltb n maxNodes m)
+
+-- ---- open_at and lead_at
+
+module _ (d : ℕ) (s : List ℕ) (p : Place) (at n : ℕ) (y : Code) (e : y ≡ codeAt d s p at n) where
+  pub open-shut : (counts : Counts) (c : ℕ) → y ≡ Code.Shut c → Open.Shut c at ≡ openOf d counts s p at n
+  unfolding openOf
+  open-shut counts c g = rw (sym e ∙ g)
+
+  pub lead-shut : (c : ℕ) → y ≡ Code.Shut c → Lead.Shut c at ≡ leadOf d s p at n
+  unfolding leadOf
+  lead-shut c g = rw (sym e ∙ g)
+
+  module _ (b : ℕ) (f : Form) (g : y ≡ Code.Opens b f) where
+    pub code-here : at < length s
+    code-here = go (subst (Begun d s p at n) (sym e ∙ g) (code-begun d s p at n))
+      where
+        go : {b : ℕ} {f : Form} → Begun d s p at n (Code.Opens b f) → at < length s
+        go (begun i j l q) = j
+
+    pub open-head : (counts : Counts) (k : ℕ) (o : Open) → k ≡ kindOf p b → o ≡ headOf f counts s k at → o ≡ openOf d counts s p at n
+    unfolding openOf
+    open-head counts k o q h = rw (sym e ∙ g, ← q) h
+
+    pub lead-form : (k : ℕ) (o : Lead) → k ≡ kindOf p b → o ≡ leadForm f s k b at → o ≡ leadOf d s p at n
+    unfolding leadOf
+    lead-form k o q h = rw (sym e ∙ g, ← q) h
+
+-- ---- instance_at
+
+module _ (counts : Counts) (s : List ℕ) (kind at : ℕ) where
+  pub instance-none : length s ≤ at + 1 → Open.Shut 2 (at + 1) ≡ headOf Instance counts s kind at
+  unfolding headOf
+  instance-none h = rw (le-ltb (at + 1) (length s) h)
+
+  module _ (h : at + 1 < length s) where
+    pub instance-low : getD s (at + 1) 0 < 0x11 → Open.Shut 5 (at + 1) ≡ headOf Instance counts s kind at
+    unfolding headOf
+    instance-low l = rw (lt-ltb (at + 1) (length s) h, outside 0x11 0x12 (getD s (at + 1) 0) (λ i j. omega arith))
+
+    pub instance-high : 0x12 < getD s (at + 1) 0 → Open.Shut 5 (at + 1) ≡ headOf Instance counts s kind at
+    unfolding headOf
+    instance-high l = rw (lt-ltb (at + 1) (length s) h, outside 0x11 0x12 (getD s (at + 1) 0) (λ i j. omega arith))
+
+    pub instance-is : (o : Open) → 0x11 ≤ getD s (at + 1) 0 → getD s (at + 1) 0 ≤ 0x12 → o ≡ instanceOf counts s kind (getD s (at + 1) 0) at → o ≡ headOf Instance counts s kind at
+    unfolding headOf
+    instance-is o l u e = rw (lt-ltb (at + 1) (length s) h, inside 0x11 0x12 (getD s (at + 1) 0) l u) e

@@ -1,0 +1,6 @@
+pub mod Stamp
+pub mod Opens
+pub mod Laws
+pub mod Steps
+pub mod Heads
+pub mod Passes

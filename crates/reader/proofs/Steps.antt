@@ -1,0 +1,287 @@
+-- Each way through a function of the walk, as one law over plain values. A need cites one of them, with `_` for what the goal shows.
+-- Assumes nothing.
+use Prim.Native.Nat.{ℕ, zero, suc, _+_, _-_, _≤_, _<_}
+use native.Mathlib.Omega.{arith}
+use mathlib.Core.Path.{_≡_, refl, sym, ap, subst, _∙_}
+use mathlib.Core.Bool.{Bool, true, false, _&&_}
+use mathlib.Core.List.{List, [], _∷_}
+use lib.ListN.{length}
+use lib.Dec.{ltb, leb, eqb}
+use borrow.Author.Tests.{lt-ltb, le-ltb, le-leb, lt-leb, eq-eqb, ne-eqb}
+use Rattle.number.specs.Checked.{checkedAt}
+use Rattle.number.specs.declared.checked.Checked.{Checked}
+use Rattle.number.specs.declared.checked.Checked.the-variants.{Good, Bad}
+use Rattle.number.specs.declared.token.Counts.{Counts}
+use Rattle.element.specs.declared.Place.{Place}
+use Rattle.element.specs.declared.Place.the-variants as Place
+use Rattle.element.specs.declared.Form.{Form}
+use Rattle.element.specs.declared.Form.the-variants.{Refused, Leaf, Named, Variable, Wrap, Modified, Counted, Array, Instance, FnPtr, Callable, Generic}
+use Rattle.grammar.specs.Kinds.{maxKind, rootOf}
+use Rattle.grammar.specs.Limits.{maxBytes, maxNodes, maxDepth}
+use Rattle.grammar.specs.Table.{kindOf}
+use Rattle.grammar.specs.Judge.{Out, fault, done, bind, check, many, bound, node, known, judge}
+use Rattle.grammar.specs.declared.Node.{Node}
+use Rattle.grammar.proofs.Sound.{Holds, holds}
+use Rattle.grammar.proofs.Bounds.{Ends, ends-many, ends-node}
+use Rattle.reader.specs.Answer.{answer, answerOf}
+use Rattle.reader.specs.Open.{head, codeAt, openOf, leading, callOf, genericOf, leadForm, leadOf, leadCode}
+use Rattle.reader.specs.Walk.{called, stamp, leaves, walkOf, Walked, Judged, smallOf, Sealed, arrayOf}
+use Rattle.reader.specs.declared.Answer.{Answer}
+use Rattle.reader.specs.declared.open.Head.{Head}
+use Rattle.reader.specs.declared.open.Code.{Code}
+use Rattle.reader.specs.declared.open.Code.the-variants as Code
+use Rattle.reader.specs.declared.open.Open.{Open}
+use Rattle.reader.specs.declared.open.Open.the-variants as Open
+use Rattle.reader.specs.declared.open.Lead.{Lead}
+use Rattle.reader.specs.declared.open.Lead.the-variants as Lead
+use Rattle.reader.specs.declared.walk.Walk.{Walk}
+use Rattle.reader.specs.declared.walk.Walk.the-variants.{Next, Stop}
+use Rattle.reader.proofs.Stamp.{length-stamp}
+use Rattle.reader.proofs.Opens.{andThen, sealed, onOpen, onLead, Begun, shut, begun, code-begun, Begins, node-open, open-begins, node-lead}
+use Rattle.reader.proofs.Laws.{clash, walked-fault, walked-is, found, still, walked-seal, walked-stop, walked-then, walked-next, walked-small}
+
+-- ---- bound_at. y is what the call gave, and its contract says that it is `checkedAt`
+
+module _ (kind d : ℕ) (s : List ℕ) (at n : ℕ) (y : Checked) (e : y ≡ checkedAt s at) where
+  pub bound-bad : (c : ℕ) (o : List ℕ) → y ≡ Bad c → Walked (bound kind d s at n) n (Stop c at) o o
+  bound-bad c o g = walked-fault _ n c at o (rw (sym e ∙ g))
+
+  module _ (v next : ℕ) (g : y ≡ Good v next) where
+    pub bound-deep : (o : List ℕ) → d ≡ 0 → Walked (bound kind d s at n) n (Stop 6 at) o o
+    bound-deep o z = walked-fault _ n 6 at o (rw (sym e ∙ g, z))
+
+    pub bound-full : (o : List ℕ) → (d ≡ 0 → ⊥) → maxNodes ≤ n → Walked (bound kind d s at n) n (Stop 10 at) o o
+    bound-full o z j = let i : 1 ≤ d = omega arith in walked-fault _ n 10 at o (rw (sym e ∙ g, le-leb 1 d i, le-ltb n maxNodes j))
+
+    pub bound-done : (r : Walk) (o o₁ : List ℕ) → (d ≡ 0 → ⊥) → n < maxNodes → Sealed (Next next (n + 1)) n (head kind v 0 0) at r o o₁ → Walked (bound kind d s at n) n r o o₁
+    unfolding sealed
+    bound-done r o o₁ z j q =
+        let i : 1 ≤ d = omega arith in
+        walked-is _ (sealed (done next (n + 1) []) (head kind v 0 0) at) n r o o₁ (rw (sym e ∙ g, le-leb 1 d i, lt-ltb n maxNodes j))
+        (walked-seal _ n _ at _ r o o o₁ (still next (n + 1) (n + 1) o) q)
+
+-- ---- type_at
+
+module _ (d : ℕ) (s : List ℕ) (counts : Counts) (p : Place) (at n : ℕ) (t : called p ≡ false) (y : Open) (e : y ≡ openOf d counts s p at n) where
+  opened-as : (x : Open) → y ≡ x → node d s counts p at n ≡ onOpen x (node (d - 1) s) (d - 1) s counts at n
+  opened-as x g = node-open s counts p at n d t ∙ ap (λ (z : Open). onOpen z (node (d - 1) s) (d - 1) s counts at n) (sym e ∙ g)
+
+  begins-as : (x : Open) → y ≡ x → Begins d (length s) at n x
+  begins-as x g = subst (Begins d (length s) at n) (sym e ∙ g) (open-begins s counts p at n d t)
+
+  pub type-stop : (c q : ℕ) (o : List ℕ) → y ≡ Open.Shut c q → Walked (node d s counts p at n) n (Stop c q) o o
+  unfolding onOpen
+  type-stop c q o g = walked-fault _ n c q o (opened-as _ g)
+
+  module _ (h : Head) (next : ℕ) (g : y ≡ Open.Leaf h next) where
+    pub leaf-bounds : (0 < d) × (at < length s) × (n < maxNodes)
+    unfolding Begins
+    leaf-bounds = begins-as _ g
+
+    pub leaf-done : (r : Walk) (o o₁ : List ℕ) → Sealed (Next next (n + 1)) n h at r o o₁ → Walked (node d s counts p at n) n r o o₁
+    unfolding onOpen
+    leaf-done r o o₁ z = walked-is _ _ n r o o₁ (opened-as _ g) (walked-seal _ n h at _ r o o o₁ (still next (n + 1) (n + 1) o) z)
+
+  module _ (h : Head) (q : Place) (next : ℕ) (g : y ≡ Open.One h q next) where
+    pub one-bounds : (0 < d) × (at < length s) × (n < maxNodes) × (called q ≡ false)
+    unfolding Begins
+    one-bounds = begins-as _ g
+
+    module _ (w : Walk) (o₀ o₁ : List ℕ) (x : Walked (node (d - 1) s counts q next (n + 1)) (n + 1) w o₀ o₁) where
+      pub one-small : smallOf w
+      one-small = walked-small _ (n + 1) w o₀ o₁ (ends-node s (d - 1) counts q next (n + 1)) x
+
+      pub one-done : (r : Walk) (o₂ : List ℕ) → Sealed w n h at r o₁ o₂ → Walked (node d s counts p at n) n r o₀ o₂
+      unfolding onOpen
+      one-done r o₂ z = walked-is _ _ n r o₀ o₂ (opened-as _ g) (walked-seal _ n h at w r o₀ o₁ o₂ x z)
+
+  module _ (h : Head) (next : ℕ) (g : y ≡ Open.Method h next) where
+    pub pointer-bounds : (0 < d) × (at < length s) × (n < maxNodes)
+    unfolding Begins
+    pointer-bounds = begins-as _ g
+
+    module _ (w : Walk) (o₀ o₁ : List ℕ) (x : Walked (node (d - 1) s counts Place.FnPtrMethod next (n + 1)) (n + 1) w o₀ o₁) where
+      pub pointer-small : smallOf w
+      pointer-small = walked-small _ (n + 1) w o₀ o₁ (ends-node s (d - 1) counts Place.FnPtrMethod next (n + 1)) x
+
+      pub pointer-done : (r : Walk) (o₂ : List ℕ) → Sealed w n h at r o₁ o₂ → Walked (node d s counts p at n) n r o₀ o₂
+      unfolding onOpen
+      pointer-done r o₂ z = walked-is _ _ n r o₀ o₂ (opened-as _ g) (walked-seal _ n h at w r o₀ o₁ o₂ x z)
+
+  module _ (h : Head) (q : Place) (next : ℕ) (g : y ≡ Open.All h q next) where
+    pub all-bounds : (0 < d) × (at < length s) × (n < maxNodes) × (called q ≡ false)
+    unfolding Begins
+    all-bounds = begins-as _ g
+
+    module _ (w : Walk) (o₀ o₁ : List ℕ) (x : Walked (many (node (d - 1) s counts q) (h .children) next (n + 1)) (n + 1) w o₀ o₁) where
+      pub all-small : smallOf w
+      all-small =
+          walked-small _ (n + 1) w o₀ o₁
+          (ends-many (node (d - 1) s counts q) (ends-node s (d - 1) counts q) (h .children) next (n + 1) (omega (arith, all-bounds .2))) x
+
+      pub all-done : (r : Walk) (o₂ : List ℕ) → Sealed w n h at r o₁ o₂ → Walked (node d s counts p at n) n r o₀ o₂
+      unfolding onOpen
+      all-done r o₂ z = walked-is _ _ n r o₀ o₂ (opened-as _ g) (walked-seal _ n h at w r o₀ o₁ o₂ x z)
+
+  module _ (kind : ℕ) (g : y ≡ Open.Array kind) where
+    pub array-bounds : (0 < d) × (at < length s) × (n < maxNodes)
+    unfolding Begins
+    array-bounds = begins-as _ g
+
+    pub array-node : (r : Walk) (o o₁ : List ℕ) → Walked (arrayOf (d - 1) s counts kind at n) n r o o₁ → Walked (node d s counts p at n) n r o o₁
+    unfolding onOpen
+    array-node r o o₁ x = walked-is _ _ n r o o₁ (opened-as _ g) x
+
+-- ---- method_at
+
+unfoldable LeadBegins : (d len at n : ℕ) → Lead → Type 0
+LeadBegins d len at n (Lead.Shut code place) = Unit {0}
+LeadBegins d len at n (Lead.Go h c next) = (0 < d) × (at < len) × (n < maxNodes)
+
+module _ (d : ℕ) (s : List ℕ) (at n : ℕ) (i : 0 < d) (j : at < length s) (l : n < maxNodes) where
+  leading-begins : (o : Checked) (from : ℕ) (h : ℕ → ℕ → Lead) → ((v next : ℕ) → LeadBegins d (length s) at n (h v next)) → LeadBegins d (length s) at n (leading o from h)
+  unfolding leading LeadBegins
+  leading-begins (Good v next) from h f = f v next
+  leading-begins (Bad code) from h f = tt
+
+  call-begins : (kind a b from : ℕ) → LeadBegins d (length s) at n (callOf s kind a b from)
+  unfolding callOf LeadBegins
+  call-begins kind a b from = leading-begins (checkedAt s from) from _ (λ v next. (i, j, l))
+
+  form-begins : (f : Form) (kind b : ℕ) → LeadBegins d (length s) at n (leadForm f s kind b at)
+  unfolding leadForm LeadBegins genericOf
+  form-begins Refused kind b = tt
+  form-begins Leaf kind b = tt
+  form-begins Named kind b = tt
+  form-begins Variable kind b = tt
+  form-begins (Wrap p) kind b = tt
+  form-begins (Modified p) kind b = tt
+  form-begins (Counted p) kind b = tt
+  form-begins Array kind b = tt
+  form-begins Instance kind b = tt
+  form-begins FnPtr kind b = tt
+  form-begins Callable kind b = call-begins kind 0 b (at + 1)
+  form-begins Generic kind b = leading-begins _ (at + 1) _ (λ g next. call-begins kind g b next)
+
+lead-begins : (d : ℕ) (s : List ℕ) (p : Place) (at n : ℕ) → LeadBegins d (length s) at n (leadOf d s p at n)
+unfolding leadOf LeadBegins
+lead-begins d s p at n = go (codeAt d s p at n) (code-begun d s p at n)
+  where
+    go : (c : Code) → Begun d s p at n c → LeadBegins d (length s) at n (leadCode c s p at)
+    go (Code.Shut code) b = tt
+    go (Code.Opens b f) (begun i j l e) = form-begins d s at n i j l f (kindOf p b) b
+
+pub method-bounds : (d : ℕ) (s : List ℕ) (p : Place) (at n : ℕ) (y : Lead) → y ≡ leadOf d s p at n → (h : Head) (c next : ℕ) → y ≡ Lead.Go h c next
+    → (0 < d) × (at < length s) × (n < maxNodes)
+unfolding LeadBegins
+method-bounds d s p at n y e h c next g = subst (LeadBegins d (length s) at n) (sym e ∙ g) (lead-begins d s p at n)
+
+sealed-stop : (o : Out) (n c p : ℕ) (h : Head) (at : ℕ) (o₀ o₁ : List ℕ) → Walked o (n + 1) (Stop c p) o₀ o₁ → Walked (sealed o h at) n (Stop c p) o₀ o₁
+unfolding sealed walkOf leaves
+sealed-stop (fault c′ p′) n c p h at o₀ o₁ x = record { result = x .result; left = x .left }
+sealed-stop (done e m rs) n c p h at o₀ o₁ x = clash (x .result)
+
+module _ (d : ℕ) (s : List ℕ) (counts : Counts) (p : Place) (at n : ℕ) (t : called p ≡ true) (y : Lead) (e : y ≡ leadOf d s p at n) where
+  led-as : (x : Lead) → y ≡ x → node d s counts p at n ≡ onLead x (node (d - 1) s) counts at n
+  led-as x g = node-lead s counts p at n d t ∙ ap (λ (z : Lead). onLead z (node (d - 1) s) counts at n) (sym e ∙ g)
+
+  pub method-stop : (c q : ℕ) (o : List ℕ) → y ≡ Lead.Shut c q → Walked (node d s counts p at n) n (Stop c q) o o
+  unfolding onLead
+  method-stop c q o g = walked-fault _ n c q o (led-as _ g)
+
+  module _ (h : Head) (c next : ℕ) (g : y ≡ Lead.Go h c next) where
+    module _ (w : Walk) (o₀ o₁ : List ℕ) (x : Walked (node (d - 1) s counts Place.RetType next (n + 1)) (n + 1) w o₀ o₁) where
+      pub return-stop : (c′ q : ℕ) → w ≡ Stop c′ q → Walked (node d s counts p at n) n (Stop c′ q) o₀ o₁
+      unfolding onLead
+      return-stop c′ q u =
+          walked-is _ _ n _ o₀ o₁ (led-as _ g)
+          (sealed-stop _ n c′ q h at o₀ o₁ (walked-stop _ _ (n + 1) c′ q o₀ o₁ (found _ (n + 1) w _ o₀ o₁ u x)))
+
+      module _ (e₁ m : ℕ) (u : w ≡ Next e₁ m) (w₂ : Walk) (o₂ : List ℕ) (z : Walked (many (node (d - 1) s counts Place.Param) c e₁ m) m w₂ o₁ o₂) where
+        pub params-small : smallOf w₂
+        params-small =
+            walked-small _ m w₂ o₁ o₂
+            (ends-many (node (d - 1) s counts Place.Param) (ends-node s (d - 1) counts Place.Param) c e₁ m
+            (walked-next _ (n + 1) e₁ m o₀ o₁ (ends-node s (d - 1) counts Place.RetType next (n + 1)) (found _ (n + 1) w _ o₀ o₁ u x))) z
+
+        pub method-done : (r : Walk) (o₃ : List ℕ) → Sealed w₂ n h at r o₂ o₃ → Walked (node d s counts p at n) n r o₀ o₃
+        unfolding onLead
+        method-done r o₃ q =
+            walked-is _ _ n r o₀ o₃ (led-as _ g)
+            (walked-seal _ n h at w₂ r o₀ o₂ o₃
+            (walked-then _ (many (node (d - 1) s counts Place.Param) c) (n + 1) e₁ m w₂ o₀ o₁ o₂ (ends-node s (d - 1) counts Place.RetType next (n + 1)) (found _ (n + 1) w _ o₀ o₁ u x) z)
+            q)
+
+-- ---- root_at
+
+pub root-is : (s : List ℕ) (counts : Counts) (kind k : ℕ) (r : Walk) (o o₁ : List ℕ) → kind ≡ k
+    → Walked (node maxDepth s counts (rootOf k) 0 0) 0 r o o₁ → Walked (node maxDepth s counts (rootOf kind) 0 0) 0 r o o₁
+root-is s counts kind k r o o₁ e x = rw e x
+
+-- ---- blob_at
+
+-- the judge once the root is read: 9 where bytes are left over
+abbrev ending : List ℕ → Out → Out
+ending s q = bind q (λ at n rs. check (eqb at (length s)) 9 at (λ _. done at n rs))
+
+module _ (s o o₁ : List ℕ) (w : Walk) where
+  ending-stop : (q : Out) (c p : ℕ) → Walked q 0 w o o₁ → w ≡ Stop c p → Judged (ending s q) (answer c p) o o₁
+  unfolding walkOf leaves answerOf
+  ending-stop (fault c′ p′) c p x g =
+      let y : Stop c p ≡ Stop c′ p′ = sym g ∙ x .result in
+      let a : c ≡ c′ = cc in
+      let b : p ≡ p′ = cc in
+      record { result = rw (a, b); left = x .left }
+  ending-stop (done e m rs) c p x g = clash (sym g ∙ x .result)
+
+  ending-over : (q : Out) (e m : ℕ) → Walked q 0 w o o₁ → w ≡ Next e m → (e ≡ length s → ⊥) → Judged (ending s q) (answer 9 e) o o₁
+  unfolding walkOf leaves answerOf
+  ending-over (fault c p) e m x g z = clash (sym (x .result) ∙ g)
+  ending-over (done e₁ m₁ rs) e m x g z =
+      let y : Next e m ≡ Next e₁ m₁ = sym g ∙ x .result in
+      let a : e ≡ e₁ = cc in
+      rw (ne-eqb e₁ (length s) (λ q. z (a ∙ q))) record { result = rw a; left = ap length (x .left) ∙ length-stamp rs 0 o }
+
+  ending-done : (q : Out) (e m : ℕ) → Walked q 0 w o o₁ → w ≡ Next e m → e ≡ length s → Judged (ending s q) (answer 0 m) o o₁
+  unfolding walkOf leaves answerOf
+  ending-done (fault c p) e m x g z = clash (sym (x .result) ∙ g)
+  ending-done (done e₁ m₁ rs) e m x g z =
+      let y : Next e m ≡ Next e₁ m₁ = sym g ∙ x .result in
+      let a : e ≡ e₁ = cc in
+      let b : m ≡ m₁ = cc in
+      rw (eq-eqb e₁ (length s) (sym a ∙ z)) record { result = rw b; left = x .left }
+
+module _ (kind : ℕ) (counts : Counts) (s o : List ℕ) where
+  judged-fault : (c p : ℕ) → judge kind counts s ≡ fault c p → Judged (judge kind counts s) (answer c p) o o
+  unfolding answerOf leaves
+  judged-fault c p e = rw e record { result = refl; left = refl }
+
+  pub unknown-kind : maxKind < kind → Judged (judge kind counts s) (answer 12 0) o o
+  unfolding judge
+  unknown-kind h = judged-fault 12 0 (rw (lt-leb kind maxKind h))
+
+  module _ (h : kind ≤ maxKind) where
+    pub too-many-rows : known counts ≡ false → Judged (judge kind counts s) (answer 13 0) o o
+    unfolding judge
+    too-many-rows k = judged-fault 13 0 (rw (le-leb kind maxKind h, k))
+
+    module _ (k : known counts ≡ true) where
+      pub too-long : maxBytes < length s → Judged (judge kind counts s) (answer 1 0) o o
+      unfolding judge
+      too-long l = judged-fault 1 0 (rw (le-leb kind maxKind h, k, lt-leb (length s) maxBytes l))
+
+      module _ (l : length s ≤ maxBytes) where
+        judge-is : judge kind counts s ≡ ending s (node maxDepth s counts (rootOf kind) 0 0)
+        unfolding judge
+        judge-is = rw (le-leb kind maxKind h, k, le-leb (length s) maxBytes l)
+
+        module _ (w : Walk) (o₁ : List ℕ) (x : Walked (node maxDepth s counts (rootOf kind) 0 0) 0 w o o₁) where
+          pub blob-stop : (c p : ℕ) → w ≡ Stop c p → Judged (judge kind counts s) (answer c p) o o₁
+          blob-stop c p g = rw judge-is (ending-stop s o o₁ w _ c p x g)
+
+          module _ (e m : ℕ) (g : w ≡ Next e m) where
+            pub blob-over : (e ≡ length s → ⊥) → Judged (judge kind counts s) (answer 9 e) o o₁
+            blob-over z = rw judge-is (ending-over s o o₁ w _ e m x g z)
+
+            pub blob-done : e ≡ length s → Judged (judge kind counts s) (answer 0 m) o o₁
+            blob-done z = rw judge-is (ending-done s o o₁ w _ e m x g z)

@@ -1,0 +1,43 @@
+// The reader: a signature blob, judged without a table or read into the flat node table.
+ghost use mathlib.Core.Path.{_≡_};
+ghost use Prim.Native.Nat.{_/_};
+ghost use lib.ListN.{length};
+ghost use Rattle.grammar.specs.Judge.{judge as judgement, reading};
+ghost use Rattle.reader.specs.Answer.{answerOf, tableOf};
+use number::token::Counts;
+
+mod open;
+mod walk;
+
+// The panel's number and its place: 0 with the number of nodes, or a refusal.
+pub struct Answer {
+    pub code: u32,
+    pub place: usize,
+}
+
+// Judges a blob of this kind under these row counts, without a table.
+pub fn judge(kind: u32, counts: Counts, blob: &[u8]) -> Answer
+    ensures { λ r. ⌜ r ≡ answerOf (judgement kind counts (now (blob .entry))) ⌝ }
+{
+    let mut none = [0u32; 1];
+    walk::blob_at(&mut none[..0], kind, counts, blob)
+}
+
+// Reads a blob into the table that is lent, six numbers to a record. A refusal leaves the table as it was.
+pub fn read(kind: u32, counts: Counts, blob: &[u8], table: &mut [u32]) -> Answer
+    ensures { λ r. ⌜ (r ≡ answerOf (reading kind counts (now (blob .entry)) (length (now (table .entry)) / 6))) × (now (table .exit) ≡ tableOf (reading kind counts (now (blob .entry)) (length (now (table .entry)) / 6)) (now (table .entry))) ⌝ }
+{
+    let judged = walk::blob_at(&mut table[..0], kind, counts, blob);
+    let code = judged.code;
+    let nodes = judged.place;
+    if code != 0 {
+        return judged;
+    }
+    if table.len() / 6 < nodes {
+        return Answer {
+            code: 11,
+            place: nodes,
+        };
+    }
+    walk::blob_at(table, kind, counts, blob)
+}

@@ -1,0 +1,399 @@
+// The walk over a blob: one cycle of calls over the depth left, with the lent table written inside it. A node's record is put once,
+// after its children are read, where it fits; so the same walk judges, on an empty part of the table, and fills.
+ghost use mathlib.Core.Path.{_≡_};
+ghost use mathlib.Core.Bool.{true, false};
+ghost use Prim.Native.Nat.{_+_, _≤_, _<_};
+ghost use lib.ListN.{length};
+ghost use Rattle.grammar.specs.Judge.{judge, known, node, many, bound};
+ghost use Rattle.grammar.specs.Kinds.{rootOf};
+ghost use Rattle.reader.specs.Walk.{putOf, smallOf, Sealed, Walked, Shaped, lowsOf, shapeOf, arrayOf, called, Judged};
+use crate::Answer;
+use crate::open;
+use crate::open::Head;
+use crate::open::Lead;
+use crate::open::Open;
+use element::Place;
+use grammar::Node;
+use number::checked::Checked;
+use number::token::Counts;
+
+const MAX_BYTES: usize = 4096;
+
+const MAX_ROWS: u32 = 0xFFFFFF;
+
+const MAX_NODES: usize = 1024;
+
+const MAX_DEPTH: usize = 32;
+
+const MAX_RANK: u32 = 32;
+
+const SIZE: u32 = 0x104;
+
+const LOW: u32 = 0x105;
+
+// Where a walk goes on, with the index of the next node; or the refusal's number and place.
+pub enum Walk {
+    Next { at: usize, node: usize },
+    Stop { code: u32, place: usize },
+}
+
+// What an array's shape gives: the array's own numbers and where the walk goes on, or the refusal's number and place.
+pub enum Shape {
+    Done { head: Head, at: usize, node: usize },
+    Stop { code: u32, place: usize },
+}
+
+fn size32(x: usize) -> u32
+    requires { ⌜ x ≤ 4096 ⌝ }
+    ensures { λ r. ⌜ r ≡ x ⌝ }
+{
+    x as u32
+}
+
+// Stores the six numbers of a node at its place in the table, where they fit.
+fn put(out: &mut [u32], n: usize, node: Node)
+    requires { ⌜ n < 1024 ⌝ }
+    ensures { λ _. ⌜ now (out .exit) ≡ putOf (now (out .entry)) n node ⌝ }
+{
+    let i = 6 * n;
+    if i + 6 <= out.len() {
+        out[i] = node.kind;
+        out[i + 1] = node.a;
+        out[i + 2] = node.b;
+        out[i + 3] = node.children;
+        out[i + 4] = node.at;
+        out[i + 5] = node.after;
+    }
+}
+
+// Puts the record of a node whose children are read, or passes their refusal on.
+fn seal(out: &mut [u32], n: usize, head: Head, at: usize, w: Walk) -> Walk
+    requires { ⌜ (n < 1024) × (at ≤ 4096) × smallOf w ⌝ }
+    ensures { λ r. ⌜ Sealed w n head at r (now (out .entry)) (now (out .exit)) ⌝ }
+{
+    match w {
+        Walk::Next { at: e, node: m } => {
+            let start = size32(at);
+            let after = size32(m);
+            put(
+                out,
+                n,
+                Node {
+                    kind: head.kind,
+                    a: head.a,
+                    b: head.b,
+                    children: head.children,
+                    at: start,
+                    after,
+                },
+            );
+            Walk::Next { at: e, node: m }
+        }
+        Walk::Stop { code, place } => Walk::Stop { code, place },
+    }
+}
+
+// A SIZE or LOW node.
+fn bound_at(out: &mut [u32], d: usize, src: &[u8], kind: u32, at: usize, n: usize) -> Walk
+    requires { ⌜ length (now src) ≤ 4096 ⌝ }
+    ensures { λ r. ⌜ Walked (bound kind d (now (src .entry)) at n) n r (now (out .entry)) (now (out .exit)) ⌝ }
+{
+    match number::checked::checked_at(src, at) {
+        Checked::Good { value, next } => {
+            if d == 0 {
+                return Walk::Stop { code: 6, place: at };
+            }
+            if MAX_NODES <= n {
+                return Walk::Stop {
+                    code: 10,
+                    place: at,
+                };
+            }
+            let w = Walk::Next {
+                at: next,
+                node: n + 1,
+            };
+            seal(
+                out,
+                n,
+                Head {
+                    kind,
+                    a: value,
+                    b: 0,
+                    children: 0,
+                },
+                at,
+                w,
+            )
+        }
+        Checked::Bad { code } => Walk::Stop { code, place: at },
+    }
+}
+
+// `count` such nodes, one after the other.
+fn bounds_at(
+    out: &mut [u32],
+    d: usize,
+    src: &[u8],
+    kind: u32,
+    count: u32,
+    at: usize,
+    n: usize,
+) -> Walk
+    requires { ⌜ length (now src) ≤ 4096 ⌝ }
+    ensures { λ r. ⌜ Walked (many (bound kind d (now (src .entry))) count at n) n r (now (out .entry)) (now (out .exit)) ⌝ }
+{
+    let mut left = count;
+    let mut e = at;
+    let mut m = n;
+    while 0 < left {
+        match bound_at(out, d, src, kind, e, m) {
+            Walk::Next { at: e2, node: m2 } => {
+                e = e2;
+                m = m2;
+            }
+            Walk::Stop { code, place } => return Walk::Stop { code, place },
+        }
+        left -= 1;
+    }
+    Walk::Next { at: e, node: m }
+}
+
+// An array's shape: Rank, NumSizes and the sizes, then the low bounds.
+fn shape_at(out: &mut [u32], d: usize, src: &[u8], kind: u32, at: usize, n: usize) -> Shape
+    requires { ⌜ (length (now src) ≤ 4096) × (n ≤ 1024) ⌝ }
+    ensures { λ r. ⌜ Shaped (shapeOf d (now (src .entry)) kind at n) n r (now (out .entry)) (now (out .exit)) ⌝ }
+{
+    match number::checked::count_at(src, at, 1, MAX_RANK) {
+        Checked::Good {
+            value: rank,
+            next: at2,
+        } => match number::checked::count_at(src, at2, 0, rank) {
+            Checked::Good {
+                value: sizes,
+                next: at3,
+            } => match bounds_at(out, d, src, SIZE, sizes, at3, n) {
+                Walk::Next { at: e, node: m } => lows_at(out, d, src, kind, rank, sizes, e, m),
+                Walk::Stop { code, place } => Shape::Stop { code, place },
+            },
+            Checked::Bad { code } => Shape::Stop { code, place: at2 },
+        },
+        Checked::Bad { code } => Shape::Stop { code, place: at },
+    }
+}
+
+// NumLoBounds and the low bounds, and with them the array's own numbers.
+fn lows_at(
+    out: &mut [u32],
+    d: usize,
+    src: &[u8],
+    kind: u32,
+    rank: u32,
+    sizes: u32,
+    at: usize,
+    n: usize,
+) -> Shape
+    requires { ⌜ (length (now src) ≤ 4096) × (rank ≤ 32) × (sizes ≤ 32) × (n ≤ 1024) ⌝ }
+    ensures { λ r. ⌜ Shaped (lowsOf d (now (src .entry)) kind rank sizes at n) n r (now (out .entry)) (now (out .exit)) ⌝ }
+{
+    match number::checked::count_at(src, at, 0, rank) {
+        Checked::Good { value: lows, next } => match bounds_at(out, d, src, LOW, lows, next, n) {
+            Walk::Next { at: e, node: m } => Shape::Done {
+                head: Head {
+                    kind,
+                    a: rank,
+                    b: sizes,
+                    children: 1 + sizes + lows,
+                },
+                at: e,
+                node: m,
+            },
+            Walk::Stop { code, place } => Shape::Stop { code, place },
+        },
+        Checked::Bad { code } => Shape::Stop { code, place: at },
+    }
+}
+
+// A type, in any place but a method's: the node with index n, for which d levels are left.
+fn type_at(
+    out: &mut [u32],
+    d: usize,
+    src: &[u8],
+    counts: Counts,
+    place: Place,
+    at: usize,
+    n: usize,
+) -> Walk
+    requires { ⌜ (length (now src) ≤ 4096) × (called place ≡ false) ⌝ }
+    ensures { λ r. ⌜ Walked (node d (now (src .entry)) counts place at n) n r (now (out .entry)) (now (out .exit)) ⌝ }
+{
+    match open::open_at(src, counts, place, at, n, d) {
+        Open::Shut { code, place: p } => Walk::Stop { code, place: p },
+        Open::Leaf { head, next } => {
+            let w = Walk::Next {
+                at: next,
+                node: n + 1,
+            };
+            seal(out, n, head, at, w)
+        }
+        Open::One { head, child, next } => {
+            let w = type_at(out, d - 1, src, counts, child, next, n + 1);
+            seal(out, n, head, at, w)
+        }
+        Open::Method { head, next } => {
+            let w = method_at(out, d - 1, src, counts, Place::FnPtrMethod, next, n + 1);
+            seal(out, n, head, at, w)
+        }
+        Open::All { head, child, next } => {
+            let w = items_at(out, d - 1, src, counts, child, head.children, next, n + 1);
+            seal(out, n, head, at, w)
+        }
+        Open::Array { kind } => array_at(out, d - 1, src, counts, kind, at, n),
+    }
+}
+
+// A method: its return type and its parameters are types again.
+fn method_at(
+    out: &mut [u32],
+    d: usize,
+    src: &[u8],
+    counts: Counts,
+    place: Place,
+    at: usize,
+    n: usize,
+) -> Walk
+    requires { ⌜ (length (now src) ≤ 4096) × (called place ≡ true) ⌝ }
+    ensures { λ r. ⌜ Walked (node d (now (src .entry)) counts place at n) n r (now (out .entry)) (now (out .exit)) ⌝ }
+{
+    match open::lead_at(src, place, at, n, d) {
+        Lead::Shut { code, place: p } => Walk::Stop { code, place: p },
+        Lead::Go { head, count, next } => match type_at(
+            out,
+            d - 1,
+            src,
+            counts,
+            Place::RetType,
+            next,
+            n + 1,
+        ) {
+            Walk::Next { at: e, node: m } => {
+                let w = items_at(out, d - 1, src, counts, Place::Param, count, e, m);
+                seal(out, n, head, at, w)
+            }
+            Walk::Stop { code, place: p } => Walk::Stop { code, place: p },
+        },
+    }
+}
+
+// `count` types one after the other.
+fn items_at(
+    out: &mut [u32],
+    d: usize,
+    src: &[u8],
+    counts: Counts,
+    place: Place,
+    count: u32,
+    at: usize,
+    n: usize,
+) -> Walk
+    requires { ⌜ (length (now src) ≤ 4096) × (called place ≡ false) ⌝ }
+    ensures { λ r. ⌜ Walked (many (node d (now (src .entry)) counts place) count at n) n r (now (out .entry)) (now (out .exit)) ⌝ }
+{
+    let mut left = count;
+    let mut e = at;
+    let mut m = n;
+    while 0 < left {
+        match type_at(out, d, src, counts, place, e, m) {
+            Walk::Next { at: e2, node: m2 } => {
+                e = e2;
+                m = m2;
+            }
+            Walk::Stop { code, place: p } => return Walk::Stop { code, place: p },
+        }
+        left -= 1;
+    }
+    Walk::Next { at: e, node: m }
+}
+
+// An array: its type, then its shape. The children have d levels left.
+fn array_at(
+    out: &mut [u32],
+    d: usize,
+    src: &[u8],
+    counts: Counts,
+    kind: u32,
+    at: usize,
+    n: usize,
+) -> Walk
+    requires { ⌜ (length (now src) ≤ 4096) × (at < length (now src)) × (n < 1024) ⌝ }
+    ensures { λ r. ⌜ Walked (arrayOf d (now (src .entry)) counts kind at n) n r (now (out .entry)) (now (out .exit)) ⌝ }
+{
+    match type_at(out, d, src, counts, Place::Type, at + 1, n + 1) {
+        Walk::Next { at: e, node: m } => match shape_at(out, d, src, kind, e, m) {
+            Shape::Done {
+                head,
+                at: e2,
+                node: m2,
+            } => {
+                let w = Walk::Next { at: e2, node: m2 };
+                seal(out, n, head, at, w)
+            }
+            Shape::Stop { code, place } => Walk::Stop { code, place },
+        },
+        Walk::Stop { code, place } => Walk::Stop { code, place },
+    }
+}
+
+// Whether all three counts are within the bound.
+fn known_counts(counts: Counts) -> bool
+    ensures { λ r. ⌜ r ≡ known counts ⌝ }
+{
+    if MAX_ROWS < counts.defs {
+        return false;
+    }
+    if MAX_ROWS < counts.refs {
+        return false;
+    }
+    counts.specs <= MAX_ROWS
+}
+
+// The root of a kind.
+fn root_at(out: &mut [u32], kind: u32, counts: Counts, src: &[u8]) -> Walk
+    requires { ⌜ (length (now src) ≤ 4096) × (kind ≤ 4) ⌝ }
+    ensures { λ r. ⌜ Walked (node 32 (now (src .entry)) counts (rootOf kind) 0 0) 0 r (now (out .entry)) (now (out .exit)) ⌝ }
+{
+    match kind {
+        0 => type_at(out, MAX_DEPTH, src, counts, Place::TypeSpec, 0, 0),
+        1 => type_at(out, MAX_DEPTH, src, counts, Place::FieldSig, 0, 0),
+        2 => type_at(out, MAX_DEPTH, src, counts, Place::LocalVarSig, 0, 0),
+        3 => method_at(out, MAX_DEPTH, src, counts, Place::PropertySig, 0, 0),
+        _ => method_at(out, MAX_DEPTH, src, counts, Place::MethodDefSig, 0, 0),
+    }
+}
+
+// The whole blob, with the records put into `out` where they fit: 12, 13, 1, the first fault from the left, 9.
+pub fn blob_at(out: &mut [u32], kind: u32, counts: Counts, src: &[u8]) -> Answer
+    ensures { λ r. ⌜ Judged (judge kind counts (now (src .entry))) r (now (out .entry)) (now (out .exit)) ⌝ }
+{
+    if 4 < kind {
+        return Answer { code: 12, place: 0 };
+    }
+    if known_counts(counts) {
+        if MAX_BYTES < src.len() {
+            return Answer { code: 1, place: 0 };
+        }
+        return match root_at(out, kind, counts, src) {
+            Walk::Next { at, node } => {
+                if at == src.len() {
+                    return Answer {
+                        code: 0,
+                        place: node,
+                    };
+                }
+                Answer { code: 9, place: at }
+            }
+            Walk::Stop { code, place } => Answer { code, place },
+        };
+    }
+    Answer { code: 13, place: 0 }
+}
