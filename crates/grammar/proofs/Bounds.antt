@@ -5,7 +5,7 @@ use native.Mathlib.Omega.{arith}
 use mathlib.Core.Path.{_≡_}
 use mathlib.Core.List.{List, [], _∷_, _++_}
 use lib.ListN.{length, getD, length-append}
-use lib.Dec.{ltb, leb}
+use lib.Dec.{ltb, leb, eqb}
 use borrow.Author.Tests.{ltb-true}
 use Rattle.number.specs.Number.{maxNumber}
 use Rattle.number.specs.Checked.{checkedAt, countAt}
@@ -18,9 +18,10 @@ use Rattle.element.specs.declared.Place.{Place}
 use Rattle.element.specs.declared.Place.the-variants as Place
 use Rattle.element.specs.declared.Form.{Form}
 use Rattle.element.specs.declared.Form.the-variants.{Refused, Leaf, Named, Variable, Wrap, Modified, Counted, Array, Instance, FnPtr, Callable, Generic}
-use Rattle.grammar.specs.Limits.{maxNodes, maxRank}
+use Rattle.grammar.specs.Kinds.{maxKind, rootOf}
+use Rattle.grammar.specs.Limits.{maxBytes, maxNodes, maxDepth, maxRank}
 use Rattle.grammar.specs.Table.{kindOf, SIZE, LOW}
-use Rattle.grammar.specs.Judge.{Out, fault, done, numbered, many, bound, Reader, callable, array, body, opened, node}
+use Rattle.grammar.specs.Judge.{Out, fault, done, numbered, many, bound, Reader, callable, array, body, opened, node, known, judge}
 use Rattle.grammar.specs.declared.Node.{Node}
 use Rattle.grammar.proofs.Sound.{Holds, stopped, holds, holds-bind, holds-check, holds-opened}
 
@@ -104,3 +105,12 @@ module _ (s : List ℕ) where
   ends-node (suc d) counts p at n =
       holds-opened s (suc d) p at n (λ b f. body (node d s) d s counts (kindOf p b) b at n f)
       (λ l r. ends-body (node d s) (ends-node d) d counts (kindOf p (getD s at 0)) (getD s at 0) at n (formOf p (getD s at 0)) l r)
+
+pub ends-judge : (kind : ℕ) (counts : Counts) (s : List ℕ) → Holds (Ends 0) (judge kind counts s)
+unfolding judge
+ends-judge kind counts s =
+    holds-check (leb kind maxKind) 12 0 _
+    (λ _. holds-check (known counts) 13 0 _
+    (λ _. holds-check (leb (length s) maxBytes) 1 0 _
+    (λ _. holds-bind (node maxDepth s counts (rootOf kind) 0 0) _ (ends-node s maxDepth counts (rootOf kind) 0 0)
+    (λ at n rs e. holds-check (eqb at (length s)) 9 at _ (λ _. holds e)))))

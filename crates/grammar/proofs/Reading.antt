@@ -19,16 +19,10 @@ use Rattle.grammar.specs.Judge.{Out, fault, done, bind, check, node, kno
 use Rattle.grammar.specs.Derives.{Derives, Signature}
 use Rattle.grammar.specs.Emit.{wrote, emitted}
 use Rattle.grammar.specs.declared.Node.{Node}
-use Rattle.grammar.proofs.Sound.{Holds, stopped, holds, holds-bind, holds-check, holds-node, both-left, both-right}
+use Rattle.grammar.proofs.Sound.{Holds, holds, holds-done, holds-bind, holds-check, holds-node, both-left, both-right}
 use Rattle.grammar.proofs.Complete.{Meets, both, bind-last, check-pass, node-back}
 use Rattle.grammar.proofs.Size.{Sized, derives-size}
 use Rattle.grammar.proofs.Emits.{derives-emit}
-
-pub holds-done : {P : ℕ → ℕ → List Node → Type 0} {a n : ℕ} {rs : List Node} (o : Out) → Holds P o → o ≡ done a n rs → P a n rs
-holds-done {P} o g e = let h = rw e at g in taken h
-  where
-    taken : {a n : ℕ} {rs : List Node} → Holds P (done a n rs) → P a n rs
-    taken (holds p) = p
 
 module _ (kind : ℕ) (counts : Counts) (s : List ℕ) where
   holds-judge : Bytes s → Holds (λ a n rs. (a ≡ length s) × Signature kind counts s n rs) (judge kind counts s)

@@ -1,12 +1,15 @@
--- Demand 1: every refusal of the judge and of the reader is a number of the list, from 1 to 13.
+-- Demand 1: every refusal of the judge and of the reader is a number of the list, from 1 to 13, and its place is within the blob, or for
+-- 11 a number of nodes within the limit.
 -- Assumes nothing.
-use Prim.Native.Nat.{ℕ, zero, suc, _+_, _≤_}
+use Prim.Native.Nat.{ℕ, zero, suc, _+_, _≤_, _<_}
 use native.Mathlib.Omega.{arith}
-use mathlib.Core.Path.{_≡_, refl}
+use mathlib.Core.Path.{_≡_, refl, sym}
 use mathlib.Core.Bool.{Bool, true, false, cond, _&&_}
+use mathlib.Core.Logic.{_⊎_, inl, inr}
 use mathlib.Core.List.{List, [], _∷_, _++_}
 use lib.ListN.{length, getD}
 use lib.Dec.{ltb, leb, eqb}
+use borrow.Author.Tests.{ltb-true}
 use Rattle.number.specs.Number.{numberAt, maxNumber}
 use Rattle.number.specs.Checked.{checked, checkedAt, countOf, countAt}
 use Rattle.number.specs.Token.{tagOf, rowOf, rowsOf, typeTags, modTags, tokenOf, tokenAt}
@@ -15,6 +18,7 @@ use Rattle.number.specs.declared.Number.the-variants.{Value, Cut, BadByte, TooL
 use Rattle.number.specs.declared.checked.Checked.{Checked}
 use Rattle.number.specs.declared.checked.Checked.the-variants.{Good, Bad}
 use Rattle.number.specs.declared.token.Counts.{Counts}
+use Rattle.number.proofs.Laws.{onward}
 use Rattle.element.specs.Element.{within, formOf}
 use Rattle.element.specs.declared.Place.{Place}
 use Rattle.element.specs.declared.Place.the-variants as Place
@@ -25,55 +29,57 @@ use Rattle.grammar.specs.Limits.{maxBytes, maxNodes, maxDepth, maxRank}
 use Rattle.grammar.specs.Table.{kindOf, SIZE, LOW}
 use Rattle.grammar.specs.Judge.{Out, fault, done, bind, check, numbered, many, bound, Reader, callable, body, allowed, opened, node, known, judge, reading}
 use Rattle.grammar.specs.declared.Node.{Node}
+use Rattle.grammar.proofs.Sound.{holds-done}
+use Rattle.grammar.proofs.Bounds.{ends-judge}
 
 -- a number of the list that a reader gives
 abbrev pub Refusal : ℕ → Type 0
 Refusal code = (1 ≤ code) × (code ≤ 13)
 
--- an outcome that is no fault, or one of the list
-data Told : Out → Type 0 where
-  told : (code : ℕ) {place : ℕ} → Refusal code → Told (fault code place)
-  fine : {at n : ℕ} {rs : List Node} → Told (done at n rs)
-
-told-bind : (o : Out) (k : ℕ → ℕ → List Node → Out) → Told o → ((at n : ℕ) (rs : List Node) → Told (k at n rs)) → Told (bind o k)
-told-bind (fault code place) k (told _ r) f = told code r
-told-bind (done at n rs) k h f = f at n rs
-
-told-check : (t : Bool) (code place : ℕ) (k : Unit {0} → Out) → Refusal code → Told (k tt) → Told (check t code place k)
-told-check true code place k r h = h
-told-check false code place k r h = told code r
-
--- ---- numbers
-
-data Numbered : Checked → Type 0 where
-  bad : (code : ℕ) → Refusal code → Numbered (Bad code)
-  good : {v next : ℕ} → Numbered (Good v next)
-
-numbered-cond : (t : Bool) (x y : Checked) → Numbered x → Numbered y → Numbered (cond t x y)
-numbered-cond true x y h k = h
-numbered-cond false x y h k = k
-
-told-numbered : (o : Checked) (at : ℕ) (k : ℕ → ℕ → Out) → Numbered o → ((v next : ℕ) → Told (k v next)) → Told (numbered o at k)
-told-numbered (Good v next) at k h f = f v next
-told-numbered (Bad code) at k (bad _ r) f = told code r
-
 module _ (s : List ℕ) where
+  -- an outcome that ends within the blob, or a refusal of the list at a place within it
+  data Told : Out → Type 0 where
+    told : (code : ℕ) {place : ℕ} → Refusal code → place ≤ length s → Told (fault code place)
+    fine : {at n : ℕ} {rs : List Node} → at ≤ length s → Told (done at n rs)
+
+  told-bind : (o : Out) (k : ℕ → ℕ → List Node → Out) → Told o → ((at n : ℕ) (rs : List Node) → at ≤ length s → Told (k at n rs)) → Told (bind o k)
+  told-bind (fault code place) k (told _ r h) f = told code r h
+  told-bind (done at n rs) k (fine h) f = f at n rs h
+
+  told-check : (t : Bool) (code place : ℕ) (k : Unit {0} → Out) → Refusal code → place ≤ length s → (t ≡ true → Told (k tt)) → Told (check t code place k)
+  told-check true code place k r h f = f refl
+  told-check false code place k r h f = told code r h
+
+  -- ---- numbers
+
+  data Numbered : Checked → Type 0 where
+    bad : (code : ℕ) → Refusal code → Numbered (Bad code)
+    good : {v next : ℕ} → next ≤ length s → Numbered (Good v next)
+
+  numbered-cond : (t : Bool) (x y : Checked) → Numbered x → Numbered y → Numbered (cond t x y)
+  numbered-cond true x y h k = h
+  numbered-cond false x y h k = k
+
+  told-numbered : (o : Checked) (at : ℕ) (k : ℕ → ℕ → Out) → Numbered o → at ≤ length s → ((v next : ℕ) → next ≤ length s → Told (k v next)) → Told (numbered o at k)
+  told-numbered (Good v next) at k (good h) l f = f v next h
+  told-numbered (Bad code) at k (bad _ r) l f = told code r l
+
   number-told : (at : ℕ) → Numbered (checkedAt s at)
   unfolding checkedAt checked
-  number-told at = go (numberAt s at)
+  number-told at = go (numberAt s at) refl
     where
-      go : (o : Number) → Numbered (checked o)
-      go (Value v next) = good
-      go Cut = bad 2 (omega arith)
-      go BadByte = bad 3 (omega arith)
-      go TooLong = bad 3 (omega arith)
+      go : (o : Number) → numberAt s at ≡ o → Numbered (checked o)
+      go (Value v next) e = good (onward s at v next e .1)
+      go Cut e = bad 2 (omega arith)
+      go BadByte e = bad 3 (omega arith)
+      go TooLong e = bad 3 (omega arith)
 
   count-told : (low high at : ℕ) → Numbered (countAt low high s at)
   unfolding countAt countOf
   count-told low high at = go (checkedAt s at) (number-told at)
     where
       go : (o : Checked) → Numbered o → Numbered (countOf low high o)
-      go (Good v next) h = numbered-cond (leb low v && leb v high) _ _ good (bad 4 (omega arith))
+      go (Good v next) h = numbered-cond (leb low v && leb v high) _ _ h (bad 4 (omega arith))
       go (Bad code) h = h
 
   token-told : (tags : ℕ) (counts : Counts) (at : ℕ) → Numbered (tokenAt tags counts s at)
@@ -83,97 +89,111 @@ module _ (s : List ℕ) where
       go : (o : Checked) → Numbered o → Numbered (tokenOf tags counts o)
       go (Good t next) h =
           numbered-cond (ltb (tagOf t) tags) _ _
-          (numbered-cond (leb 1 (rowOf t) && leb (rowOf t) (rowsOf counts (tagOf t))) _ _ good (bad 8 (omega arith)))
+          (numbered-cond (leb 1 (rowOf t) && leb (rowOf t) (rowsOf counts (tagOf t))) _ _ h (bad 8 (omega arith)))
           (bad 7 (omega arith))
       go (Bad code) h = h
 
   -- ---- nodes
 
-  told-many : (item : ℕ → ℕ → Out) → ((at n : ℕ) → Told (item at n)) → (k at n : ℕ) → Told (many item k at n)
+  told-many : (item : ℕ → ℕ → Out) → ((at n : ℕ) → at ≤ length s → Told (item at n)) → (k at n : ℕ) → at ≤ length s → Told (many item k at n)
   unfolding many
-  told-many item f zero at n = fine
-  told-many item f (suc k) at n =
-      told-bind (item at n) _ (f at n) (λ at₁ n₁ rs. told-bind (many item k at₁ n₁) _ (told-many item f k at₁ n₁) (λ at₂ n₂ ts. fine))
+  told-many item f zero at n l = fine l
+  told-many item f (suc k) at n l =
+      told-bind (item at n) _ (f at n l) (λ at₁ n₁ rs h. told-bind (many item k at₁ n₁) _ (told-many item f k at₁ n₁ h) (λ at₂ n₂ ts g. fine g))
 
-  told-bound : (kind d at n : ℕ) → Told (bound kind d s at n)
-  told-bound kind d at n =
-      told-numbered (checkedAt s at) at _ (number-told at)
-      (λ v next. told-check (leb 1 d) 6 at _ (omega arith) (told-check (ltb n maxNodes) 10 at _ (omega arith) fine))
+  told-bound : (kind d at n : ℕ) → at ≤ length s → Told (bound kind d s at n)
+  told-bound kind d at n l =
+      told-numbered (checkedAt s at) at _ (number-told at) l
+      (λ v next h. told-check (leb 1 d) 6 at _ (omega arith) l (λ _. told-check (ltb n maxNodes) 10 at _ (omega arith) l (λ _. fine h)))
 
-  module _ (read : Reader) (below : (counts : Counts) (p : Place) (at n : ℕ) → Told (read counts p at n)) where
-    told-callable : (counts : Counts) (kind a b at n from : ℕ) → Told (callable read s counts kind a b at n from)
-    told-callable counts kind a b at n from =
-        told-numbered (checkedAt s from) from _ (number-told from)
-        (λ c next. told-bind (read counts Place.RetType next (n + 1)) _ (below counts Place.RetType next (n + 1))
-        (λ at₁ n₁ rs. told-bind (many (read counts Place.Param) c at₁ n₁) _ (told-many (read counts Place.Param) (below counts Place.Param) c at₁ n₁)
-        (λ at₂ n₂ ts. fine)))
+  module _ (read : Reader) (below : (counts : Counts) (p : Place) (at n : ℕ) → at ≤ length s → Told (read counts p at n)) where
+    told-callable : (counts : Counts) (kind a b at n from : ℕ) → from ≤ length s → Told (callable read s counts kind a b at n from)
+    told-callable counts kind a b at n from l =
+        told-numbered (checkedAt s from) from _ (number-told from) l
+        (λ c next h. told-bind (read counts Place.RetType next (n + 1)) _ (below counts Place.RetType next (n + 1) h)
+        (λ at₁ n₁ rs e. told-bind (many (read counts Place.Param) c at₁ n₁) _ (told-many (read counts Place.Param) (below counts Place.Param) c at₁ n₁ e)
+        (λ at₂ n₂ ts g. fine g)))
 
-    told-body : (d : ℕ) (counts : Counts) (kind b at n : ℕ) (f : Form) → Told (body read d s counts kind b at n f)
+    told-body : (d : ℕ) (counts : Counts) (kind b at n : ℕ) (f : Form) → at < length s → Told (body read d s counts kind b at n f)
     unfolding body
-    told-body d counts kind b at n Refused = told 5 (omega arith)
-    told-body d counts kind b at n Leaf = fine
-    told-body d counts kind b at n Named = told-numbered _ (at + 1) _ (token-told typeTags counts (at + 1)) (λ t next. fine)
-    told-body d counts kind b at n Variable = told-numbered _ (at + 1) _ (number-told (at + 1)) (λ v next. fine)
-    told-body d counts kind b at n (Wrap p) = told-bind (read counts p (at + 1) (n + 1)) _ (below counts p (at + 1) (n + 1)) (λ at₁ n₁ rs. fine)
-    told-body d counts kind b at n (Modified p) =
-        told-numbered _ (at + 1) _ (token-told modTags counts (at + 1))
-        (λ t next. told-bind (read counts p next (n + 1)) _ (below counts p next (n + 1)) (λ at₁ n₁ rs. fine))
-    told-body d counts kind b at n (Counted p) =
-        told-numbered _ (at + 1) _ (count-told 1 maxNumber (at + 1))
-        (λ c next. told-bind (many (read counts p) c next (n + 1)) _ (told-many (read counts p) (below counts p) c next (n + 1)) (λ at₁ n₁ rs. fine))
-    told-body d counts kind b at n Array =
-        told-bind (read counts Place.Type (at + 1) (n + 1)) _ (below counts Place.Type (at + 1) (n + 1))
-        (λ at₁ n₁ ts. told-numbered _ at₁ _ (count-told 1 maxRank at₁)
-        (λ rank at₂. told-numbered _ at₂ _ (count-told 0 rank at₂)
-        (λ sizes at₃. told-bind (many (bound SIZE d s) sizes at₃ n₁) _ (told-many (bound SIZE d s) (told-bound SIZE d) sizes at₃ n₁)
-        (λ at₄ n₂ ss. told-numbered _ at₄ _ (count-told 0 rank at₄)
-        (λ lows at₅. told-bind (many (bound LOW d s) lows at₅ n₂) _ (told-many (bound LOW d s) (told-bound LOW d) lows at₅ n₂)
-        (λ at₆ n₃ ls. fine))))))
-    told-body d counts kind b at n Instance =
-        told-check (ltb (at + 1) (length s)) 2 (at + 1) _ (omega arith)
-        (told-check (within 0x11 0x12 (getD s (at + 1) 0)) 5 (at + 1) _ (omega arith)
-        (told-numbered _ (at + 2) _ (token-told typeTags counts (at + 2))
-        (λ t at₁. told-numbered _ at₁ _ (count-told 1 maxNumber at₁)
-        (λ c at₂. told-bind (many (read counts Place.Type) c at₂ (n + 1)) _ (told-many (read counts Place.Type) (below counts Place.Type) c at₂ (n + 1))
-        (λ at₃ n₁ rs. fine)))))
-    told-body d counts kind b at n FnPtr =
-        told-bind (read counts Place.FnPtrMethod (at + 1) (n + 1)) _ (below counts Place.FnPtrMethod (at + 1) (n + 1)) (λ at₁ n₁ rs. fine)
-    told-body d counts kind b at n Callable = told-callable counts kind 0 b at n (at + 1)
-    told-body d counts kind b at n Generic =
-        told-numbered _ (at + 1) _ (count-told 1 maxNumber (at + 1)) (λ g next. told-callable counts kind g b at n next)
+    told-body d counts kind b at n Refused l = told 5 {place = at} (omega arith) (omega arith)
+    told-body d counts kind b at n Leaf l = fine {at = at + 1} (omega arith)
+    told-body d counts kind b at n Named l = told-numbered _ (at + 1) _ (token-told typeTags counts (at + 1)) (omega arith) (λ t next h. fine h)
+    told-body d counts kind b at n Variable l = told-numbered _ (at + 1) _ (number-told (at + 1)) (omega arith) (λ v next h. fine h)
+    told-body d counts kind b at n (Wrap p) l = told-bind (read counts p (at + 1) (n + 1)) _ (below counts p (at + 1) (n + 1) (omega arith)) (λ at₁ n₁ rs h. fine h)
+    told-body d counts kind b at n (Modified p) l =
+        told-numbered _ (at + 1) _ (token-told modTags counts (at + 1)) (omega arith)
+        (λ t next h. told-bind (read counts p next (n + 1)) _ (below counts p next (n + 1) h) (λ at₁ n₁ rs g. fine g))
+    told-body d counts kind b at n (Counted p) l =
+        told-numbered _ (at + 1) _ (count-told 1 maxNumber (at + 1)) (omega arith)
+        (λ c next h. told-bind (many (read counts p) c next (n + 1)) _ (told-many (read counts p) (below counts p) c next (n + 1) h) (λ at₁ n₁ rs g. fine g))
+    told-body d counts kind b at n Array l =
+        told-bind (read counts Place.Type (at + 1) (n + 1)) _ (below counts Place.Type (at + 1) (n + 1) (omega arith))
+        (λ at₁ n₁ ts h₁. told-numbered _ at₁ _ (count-told 1 maxRank at₁) h₁
+        (λ rank at₂ h₂. told-numbered _ at₂ _ (count-told 0 rank at₂) h₂
+        (λ sizes at₃ h₃. told-bind (many (bound SIZE d s) sizes at₃ n₁) _ (told-many (bound SIZE d s) (told-bound SIZE d) sizes at₃ n₁ h₃)
+        (λ at₄ n₂ ss h₄. told-numbered _ at₄ _ (count-told 0 rank at₄) h₄
+        (λ lows at₅ h₅. told-bind (many (bound LOW d s) lows at₅ n₂) _ (told-many (bound LOW d s) (told-bound LOW d) lows at₅ n₂ h₅)
+        (λ at₆ n₃ ls h₆. fine h₆))))))
+    told-body d counts kind b at n Instance l =
+        told-check (ltb (at + 1) (length s)) 2 (at + 1) _ (omega arith) (omega arith)
+        (λ e. told-check (within 0x11 0x12 (getD s (at + 1) 0)) 5 (at + 1) _ (omega arith) (omega arith)
+        (λ _. told-numbered _ (at + 2) _ (token-told typeTags counts (at + 2)) (omega (arith, ltb-true (at + 1) (length s) e))
+        (λ t at₁ h₁. told-numbered _ at₁ _ (count-told 1 maxNumber at₁) h₁
+        (λ c at₂ h₂. told-bind (many (read counts Place.Type) c at₂ (n + 1)) _ (told-many (read counts Place.Type) (below counts Place.Type) c at₂ (n + 1) h₂)
+        (λ at₃ n₁ rs h₃. fine h₃)))))
+    told-body d counts kind b at n FnPtr l =
+        told-bind (read counts Place.FnPtrMethod (at + 1) (n + 1)) _ (below counts Place.FnPtrMethod (at + 1) (n + 1) (omega arith)) (λ at₁ n₁ rs h. fine h)
+    told-body d counts kind b at n Callable l = told-callable counts kind 0 b at n (at + 1) (omega arith)
+    told-body d counts kind b at n Generic l =
+        told-numbered _ (at + 1) _ (count-told 1 maxNumber (at + 1)) (omega arith) (λ g next h. told-callable counts kind g b at n next h)
 
-  told-opened : (d : ℕ) (p : Place) (at n : ℕ) (k : ℕ → Form → Out) → ((b : ℕ) (f : Form) → Told (k b f)) → Told (opened d s p at n k)
-  told-opened d p at n k f =
-      told-check (ltb at (length s)) 2 at _ (omega arith)
-      (told-check (allowed (formOf p (getD s at 0))) 5 at _ (omega arith)
-      (told-check (leb 1 d) 6 at _ (omega arith) (told-check (ltb n maxNodes) 10 at _ (omega arith) (f _ _))))
+  told-opened : (d : ℕ) (p : Place) (at n : ℕ) (k : ℕ → Form → Out) → at ≤ length s → (at < length s → Told (k (getD s at 0) (formOf p (getD s at 0)))) → Told (opened d s p at n k)
+  told-opened d p at n k l f =
+      told-check (ltb at (length s)) 2 at _ (omega arith) l
+      (λ e. told-check (allowed (formOf p (getD s at 0))) 5 at _ (omega arith) l
+      (λ _. told-check (leb 1 d) 6 at _ (omega arith) l (λ _. told-check (ltb n maxNodes) 10 at _ (omega arith) l (λ _. f (ltb-true _ _ e)))))
 
-  told-node : (d : ℕ) (counts : Counts) (p : Place) (at n : ℕ) → Told (node d s counts p at n)
+  told-node : (d : ℕ) (counts : Counts) (p : Place) (at n : ℕ) → at ≤ length s → Told (node d s counts p at n)
   unfolding node
-  told-node zero counts p at n = told-opened zero p at n (λ b f. fault 6 at) (λ b f. told 6 (omega arith))
-  told-node (suc d) counts p at n =
-      told-opened (suc d) p at n (λ b f. body (node d s) d s counts (kindOf p b) b at n f)
-      (λ b f. told-body (node d s) (told-node d) d counts (kindOf p b) b at n f)
+  told-node zero counts p at n l = told-opened zero p at n (λ b f. fault 6 at) l (λ _. told 6 (omega arith) l)
+  told-node (suc d) counts p at n l =
+      told-opened (suc d) p at n (λ b f. body (node d s) d s counts (kindOf p b) b at n f) l
+      (λ h. told-body (node d s) (told-node d) d counts (kindOf p (getD s at 0)) (getD s at 0) at n (formOf p (getD s at 0)) h)
 
-told-judge : (kind : ℕ) (counts : Counts) (s : List ℕ) → Told (judge kind counts s)
-unfolding judge
-told-judge kind counts s =
-    told-check (leb kind maxKind) 12 0 _ (omega arith)
-    (told-check (known counts) 13 0 _ (omega arith)
-    (told-check (leb (length s) maxBytes) 1 0 _ (omega arith)
-    (told-bind (node maxDepth s counts (rootOf kind) 0 0) _ (told-node s maxDepth counts (rootOf kind) 0 0)
-    (λ at n rs. told-check (eqb at (length s)) 9 at _ (omega arith) fine))))
+  told-judge : (kind : ℕ) (counts : Counts) → Told (judge kind counts s)
+  unfolding judge
+  told-judge kind counts =
+      told-check (leb kind maxKind) 12 0 _ (omega arith) (omega arith)
+      (λ _. told-check (known counts) 13 0 _ (omega arith) (omega arith)
+      (λ _. told-check (leb (length s) maxBytes) 1 0 _ (omega arith) (omega arith)
+      (λ _. told-bind (node maxDepth s counts (rootOf kind) 0 0) _ (told-node maxDepth counts (rootOf kind) 0 0 (omega arith))
+      (λ at n rs h. told-check (eqb at (length s)) 9 at _ (omega arith) h (λ _. fine h)))))
 
-refusal-of : (o : Out) (code place : ℕ) → Told o → o ≡ fault code place → Refusal code
-refusal-of o code place h e = taken (rw e at h)
-  where
-    taken : {code place : ℕ} → Told (fault code place) → Refusal code
-    taken (told code r) = r
+  told-fault : (o : Out) (code place : ℕ) → Told o → o ≡ fault code place → Refusal code × (place ≤ length s)
+  told-fault o code place h e = taken (rw e at h)
+    where
+      taken : {code place : ℕ} → Told (fault code place) → Refusal code × (place ≤ length s)
+      taken (told code r l) = (r, l)
 
-pub judge-refuses : (kind : ℕ) (counts : Counts) (s : List ℕ) (code place : ℕ) → judge kind counts s ≡ fault code place → Refusal code
-judge-refuses kind counts s code place e = refusal-of _ code place (told-judge kind counts s) e
+-- a refusal of the judge
+pub judge-refuses : (kind : ℕ) (counts : Counts) (s : List ℕ) (code place : ℕ) → judge kind counts s ≡ fault code place → Refusal code × (place ≤ length s)
+judge-refuses kind counts s code place e = told-fault s _ code place (told-judge s kind counts) e
 
-pub read-refuses : (kind : ℕ) (counts : Counts) (s : List ℕ) (lent code place : ℕ) → reading kind counts s lent ≡ fault code place → Refusal code
+-- a refusal of the reader: the judge's, or 11 with the nodes needed
+pub read-refuses : (kind : ℕ) (counts : Counts) (s : List ℕ) (lent code place : ℕ) → reading kind counts s lent ≡ fault code place
+    → Refusal code × ((place ≤ length s) ⊎ ((code ≡ 11) × (place ≤ maxNodes)))
 unfolding reading
-read-refuses kind counts s lent code place e =
-    refusal-of _ code place (told-bind (judge kind counts s) _ (told-judge kind counts s) (λ at n rs. told-check (leb n lent) 11 n _ (omega arith) fine)) e
+read-refuses kind counts s lent code place e = go (judge kind counts s) refl e
+  where
+    lend : (at n : ℕ) (rs : List Node) (t : Bool) → n ≤ maxNodes → check t 11 n (λ _. done at n rs) ≡ fault code place → Refusal code × ((place ≤ length s) ⊎ ((code ≡ 11) × (place ≤ maxNodes)))
+    lend at n rs true j q = let z : _≡_ {A = ℕ} 0 1 = cc in absurd (omega arith)
+    lend at n rs false j q = let a : 11 ≡ code = cc in let b : n ≡ place = cc in (omega arith, inr (sym a, omega arith))
+
+    go : (o : Out) → judge kind counts s ≡ o → bind o (λ at n rs. check (leb n lent) 11 n (λ _. done at n rs)) ≡ fault code place → Refusal code × ((place ≤ length s) ⊎ ((code ≡ 11) × (place ≤ maxNodes)))
+    go (fault c p) q h =
+        let a : c ≡ code = cc in
+        let b : p ≡ place = cc in
+        let r = judge-refuses kind counts s c p q in
+        (omega (arith, r), inl (omega (arith, r)))
+    go (done at n rs) q h = lend at n rs (leb n lent) (holds-done _ (ends-judge kind counts s) q .0) h

@@ -34,6 +34,12 @@ pub data Holds (P : ℕ → ℕ → List Node → Type 0) : Out → Type 0 where
   stopped : {c p : ℕ} → Holds P (fault c p)
   holds : {a n : ℕ} {rs : List Node} → P a n rs → Holds P (done a n rs)
 
+pub holds-done : {P : ℕ → ℕ → List Node → Type 0} {a n : ℕ} {rs : List Node} (o : Out) → Holds P o → o ≡ done a n rs → P a n rs
+holds-done {P} o g e = let h = rw e at g in taken h
+  where
+    taken : {a n : ℕ} {rs : List Node} → Holds P (done a n rs) → P a n rs
+    taken (holds p) = p
+
 pub both-left : (a b : Bool) → a && b ≡ true → a ≡ true
 both-left true b e = refl
 both-left false b e = e

@@ -4,3 +4,4 @@ pub mod Laws
 pub mod Steps
 pub mod Heads
 pub mod Passes
+pub mod Theorems

@@ -14,21 +14,12 @@ use Rattle.grammar.specs.Table.{flat}
 use Rattle.grammar.specs.Judge.{Out, fault, done, bind, check, node, known, judge, reading}
 use Rattle.grammar.specs.declared.Node.{Node}
 use Rattle.grammar.proofs.Sound.{Holds, holds, holds-bind, holds-check}
-use Rattle.grammar.proofs.Bounds.{Ends, ends-node}
+use Rattle.grammar.proofs.Bounds.{Ends, ends-judge}
 use Rattle.grammar.proofs.Refusals.{judge-refuses}
 use Rattle.reader.specs.Answer.{answer, answerOf, tableOf}
 use Rattle.reader.specs.Walk.{leaves, Judged}
 use Rattle.reader.specs.declared.Answer.{Answer}
 use Rattle.reader.proofs.Stamp.{stamp-flat}
-
-ends-judge : (kind : ℕ) (counts : Counts) (s : List ℕ) → Holds (Ends 0) (judge kind counts s)
-unfolding judge
-ends-judge kind counts s =
-    holds-check (leb kind maxKind) 12 0 _
-    (λ _. holds-check (known counts) 13 0 _
-    (λ _. holds-check (leb (length s) maxBytes) 1 0 _
-    (λ _. holds-bind (node maxDepth s counts (rootOf kind) 0 0) _ (ends-node s maxDepth counts (rootOf kind) 0 0)
-    (λ at n rs e. holds-check (eqb at (length s)) 9 at _ (λ _. holds e)))))
 
 -- what read answers and leaves, of any outcome of the judge
 abbrev lending : ℕ → Out → Out
@@ -78,7 +69,7 @@ home (a ∷ l) o h = absurd (omega arith)
 -- o is the table, and l the same table after the first walk
 module _ (kind : ℕ) (counts : Counts) (s : List ℕ) (r : Answer) (l o o₀ o₁ : List ℕ) (same : l ≡ o) (x : Judged (judge kind counts s) r o₀ o₁) where
   refuses : (c p : ℕ) → judge kind counts s ≡ fault c p → 1 ≤ c
-  refuses c p e = judge-refuses kind counts s c p e .0
+  refuses c p e = judge-refuses kind counts s c p e .0 .0
 
   pub read-refused : (r .code ≡ 0 → ⊥) → (r ≡ answerOf (reading kind counts s (length o / 6))) × (l ≡ tableOf (reading kind counts s (length o / 6)) o)
   unfolding reading
