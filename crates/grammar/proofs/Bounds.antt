@@ -21,7 +21,7 @@ use Rattle.element.specs.declared.Form.the-variants.{Refused, Leaf, Named, Vari
 use Rattle.grammar.specs.Kinds.{maxKind, rootOf}
 use Rattle.grammar.specs.Limits.{maxBytes, maxNodes, maxDepth, maxRank}
 use Rattle.grammar.specs.Table.{kindOf, SIZE, LOW}
-use Rattle.grammar.specs.Judge.{Out, fault, done, numbered, many, bound, Reader, callable, array, body, opened, node, known, judge}
+use Rattle.grammar.specs.Judge.{Out, fault, done, numbered, many, bound, Reader, callable, array, body, opened, node, known, judge, reading}
 use Rattle.grammar.specs.declared.Node.{Node}
 use Rattle.grammar.proofs.Sound.{Holds, stopped, holds, holds-bind, holds-check, holds-opened}
 
@@ -114,3 +114,8 @@ ends-judge kind counts s =
     (λ _. holds-check (leb (length s) maxBytes) 1 0 _
     (λ _. holds-bind (node maxDepth s counts (rootOf kind) 0 0) _ (ends-node s maxDepth counts (rootOf kind) 0 0)
     (λ at n rs e. holds-check (eqb at (length s)) 9 at _ (λ _. holds e)))))
+
+pub ends-reading : (kind : ℕ) (counts : Counts) (s : List ℕ) (lent : ℕ) → Holds (Ends 0) (reading kind counts s lent)
+unfolding reading
+ends-reading kind counts s lent =
+    holds-bind (judge kind counts s) _ (ends-judge kind counts s) (λ at n rs e. holds-check (leb n lent) 11 n _ (λ _. holds e))

@@ -9,7 +9,7 @@ use mathlib.Core.Logic.{_⊎_, inl, inr}
 use mathlib.Core.List.{List, [], _∷_, _++_}
 use lib.ListN.{length, getD}
 use lib.Dec.{ltb, leb, eqb}
-use borrow.Author.Tests.{ltb-true}
+use borrow.Author.Tests.{ltb-true, leb-true}
 use Rattle.number.specs.Number.{numberAt, maxNumber}
 use Rattle.number.specs.Checked.{checked, checkedAt, countOf, countAt}
 use Rattle.number.specs.Token.{tagOf, rowOf, rowsOf, typeTags, modTags, tokenOf, tokenAt}
@@ -176,24 +176,39 @@ module _ (s : List ℕ) where
       taken : {code place : ℕ} → Told (fault code place) → Refusal code × (place ≤ length s)
       taken (told code r l) = (r, l)
 
+-- a blob that is too long is refused at 0
+long-place : (kind : ℕ) (counts : Counts) (s : List ℕ) (code place : ℕ) → leb (length s) maxBytes ≡ false → judge kind counts s ≡ fault code place → place ≡ 0
+unfolding judge
+long-place kind counts s code place l e = go (leb kind maxKind) (known counts) (rw l at e)
+  where
+    go : (t u : Bool) → check t 12 0 (λ _. check u 13 0 (λ _. fault 1 0)) ≡ fault code place → place ≡ 0
+    go true true q = cc
+    go true false q = cc
+    go false u q = cc
+
 -- a refusal of the judge
-pub judge-refuses : (kind : ℕ) (counts : Counts) (s : List ℕ) (code place : ℕ) → judge kind counts s ≡ fault code place → Refusal code × (place ≤ length s)
-judge-refuses kind counts s code place e = told-fault s _ code place (told-judge s kind counts) e
+pub judge-refuses : (kind : ℕ) (counts : Counts) (s : List ℕ) (code place : ℕ) → judge kind counts s ≡ fault code place
+    → Refusal code × (place ≤ length s) × (place ≤ maxBytes)
+judge-refuses kind counts s code place e = go (leb (length s) maxBytes) refl (told-fault s _ code place (told-judge s kind counts) e)
+  where
+    go : (t : Bool) → leb (length s) maxBytes ≡ t → Refusal code × (place ≤ length s) → Refusal code × (place ≤ length s) × (place ≤ maxBytes)
+    go true l r = let h : length s ≤ maxBytes = leb-true _ _ l in (r .0, r .1, omega (arith, r .1))
+    go false l r = let z = long-place kind counts s code place l e in (r .0, r .1, omega arith)
 
 -- a refusal of the reader: the judge's, or 11 with the nodes needed
 pub read-refuses : (kind : ℕ) (counts : Counts) (s : List ℕ) (lent code place : ℕ) → reading kind counts s lent ≡ fault code place
-    → Refusal code × ((place ≤ length s) ⊎ ((code ≡ 11) × (place ≤ maxNodes)))
+    → Refusal code × ((place ≤ length s) ⊎ ((code ≡ 11) × (place ≤ maxNodes))) × (place ≤ maxBytes)
 unfolding reading
 read-refuses kind counts s lent code place e = go (judge kind counts s) refl e
   where
-    lend : (at n : ℕ) (rs : List Node) (t : Bool) → n ≤ maxNodes → check t 11 n (λ _. done at n rs) ≡ fault code place → Refusal code × ((place ≤ length s) ⊎ ((code ≡ 11) × (place ≤ maxNodes)))
+    lend : (at n : ℕ) (rs : List Node) (t : Bool) → n ≤ maxNodes → check t 11 n (λ _. done at n rs) ≡ fault code place → Refusal code × ((place ≤ length s) ⊎ ((code ≡ 11) × (place ≤ maxNodes))) × (place ≤ maxBytes)
     lend at n rs true j q = let z : _≡_ {A = ℕ} 0 1 = cc in absurd (omega arith)
-    lend at n rs false j q = let a : 11 ≡ code = cc in let b : n ≡ place = cc in (omega arith, inr (sym a, omega arith))
+    lend at n rs false j q = let a : 11 ≡ code = cc in let b : n ≡ place = cc in (omega arith, inr (sym a, omega arith), omega arith)
 
-    go : (o : Out) → judge kind counts s ≡ o → bind o (λ at n rs. check (leb n lent) 11 n (λ _. done at n rs)) ≡ fault code place → Refusal code × ((place ≤ length s) ⊎ ((code ≡ 11) × (place ≤ maxNodes)))
+    go : (o : Out) → judge kind counts s ≡ o → bind o (λ at n rs. check (leb n lent) 11 n (λ _. done at n rs)) ≡ fault code place → Refusal code × ((place ≤ length s) ⊎ ((code ≡ 11) × (place ≤ maxNodes))) × (place ≤ maxBytes)
     go (fault c p) q h =
         let a : c ≡ code = cc in
         let b : p ≡ place = cc in
         let r = judge-refuses kind counts s c p q in
-        (omega (arith, r), inl (omega (arith, r)))
+        (omega (arith, r), inl (omega (arith, r)), omega (arith, r))
     go (done at n rs) q h = lend at n rs (leb n lent) (holds-done _ (ends-judge kind counts s) q .0) h

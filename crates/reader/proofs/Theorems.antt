@@ -8,11 +8,14 @@ use mathlib.Core.List.{List, _++_}
 use lib.ListN.{length, drop}
 use Rattle.number.specs.Number.{Bytes}
 use Rattle.number.specs.declared.token.Counts.{Counts}
+use Rattle.grammar.specs.Limits.{maxBytes}
 use Rattle.grammar.specs.Table.{flat}
 use Rattle.grammar.specs.Judge.{Out, fault, done, judge, reading}
 use Rattle.grammar.specs.Derives.{Signature}
 use Rattle.grammar.specs.declared.Node.{Node}
 use Rattle.grammar.proofs.Reading.{read-accepted, read-derivable, accepted, derivable}
+use Rattle.grammar.proofs.Sound.{holds-done}
+use Rattle.grammar.proofs.Bounds.{ends-judge, ends-reading}
 use Rattle.grammar.proofs.Refusals.{Refusal, judge-refuses, read-refuses}
 use Rattle.reader.specs.Answer.{answer, answerOf, tableOf}
 use Rattle.reader.specs.declared.Answer.{Answer}
@@ -64,3 +67,20 @@ module _ (kind : ℕ) (counts : Counts) (s : List ℕ) where
       go : (o : Out) → judge kind counts s ≡ o → answerOf o .code ≡ 0 → (n : ℕ) × (rs : List Node) × Signature kind counts s n rs
       go (fault code place) e z = let h = judge-refuses kind counts s code place e .0 in absurd (omega arith)
       go (done at n rs) e z = (n, rs, accepted kind counts s bytes at n rs e .1)
+
+-- the place of an answer is at most 4,096
+pub judge-place : (kind : ℕ) (counts : Counts) (s : List ℕ) → answerOf (judge kind counts s) .place ≤ maxBytes
+unfolding answerOf
+judge-place kind counts s = go (judge kind counts s) refl
+  where
+    go : (o : Out) → judge kind counts s ≡ o → answerOf o .place ≤ maxBytes
+    go (fault code place) e = judge-refuses kind counts s code place e .2
+    go (done at n rs) e = let h = holds-done _ (ends-judge kind counts s) e .0 in omega arith
+
+pub read-place : (kind : ℕ) (counts : Counts) (s : List ℕ) (lent : ℕ) → answerOf (reading kind counts s lent) .place ≤ maxBytes
+unfolding answerOf
+read-place kind counts s lent = go (reading kind counts s lent) refl
+  where
+    go : (o : Out) → reading kind counts s lent ≡ o → answerOf o .place ≤ maxBytes
+    go (fault code place) e = read-refuses kind counts s lent code place e .2
+    go (done at n rs) e = let h = holds-done _ (ends-reading kind counts s lent) e .0 in omega arith

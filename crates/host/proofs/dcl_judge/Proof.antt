@@ -1,0 +1,15 @@
+-- `host::dcl_judge` meets its contract. Assumes nothing.
+use borrow.Author.Needs.{needs}
+use mathlib.Core.Path.{ap, _∙_}
+use Rattle.host.specs.Packed.{packed}
+use Rattle.reader.proofs.Theorems.{judge-place}
+use Rattle.host.proofs.dcl_judge.Statement.{statement}
+use Rattle.host.proofs.dcl_judge.Tie as tie
+
+pub dcl-judge-spec : {M : Type 1} → statement M
+dcl-judge-spec =
+    tie.close
+    (tie.spec
+    (λ c κs. search needs)
+    (λ c κs. rw (c .judge .ensures) (judge-place _ _ _))
+    (λ c. c .pack .ensures ∙ ap packed (c .before .judge .ensures)))

@@ -1,0 +1,132 @@
+// Runs one case of the reader and prints what it answered and left.
+use crate::print;
+use number::token::Counts;
+
+const UNTOUCHED: u32 = 0xA5A5A5A5;
+
+pub fn counts(defs: u32, refs: u32, specs: u32) -> Counts {
+    Counts { defs, refs, specs }
+}
+
+// Document 01's row counts on the bench.
+pub fn bench_counts() -> Counts {
+    counts(0, 18, 1)
+}
+
+// How many numbers of the table are no longer as they were.
+fn changed(table: &[u32]) -> u64 {
+    let mut n: u64 = 0;
+    let mut i = 0;
+    while i < table.len() {
+        if table[i] != UNTOUCHED {
+            n = n % 0x10000 + 1;
+        }
+        i += 1;
+    }
+    n
+}
+
+fn wide(x: u32) -> u64 {
+    x as u64
+}
+
+// A sum over all numbers of the table that goes by their order.
+fn checksum(table: &[u32]) -> u64 {
+    let mut sum: u64 = 0;
+    let mut i = 0;
+    while i < table.len() {
+        sum = (sum % 0x10000 * 31 + wide(table[i]) % 65521) % 65521;
+        i += 1;
+    }
+    sum
+}
+
+// The first twelve records at most, six numbers to a line.
+fn records(table: &[u32], nodes: usize) {
+    let mut i = 0;
+    while i < table.len() {
+        if 72 <= i {
+            return;
+        }
+        if nodes <= i / 6 {
+            return;
+        }
+        print::text(b" ");
+        print::hex(wide(table[i]));
+        if i % 6 == 5 {
+            print::text(b"\n");
+        }
+        i += 1;
+    }
+}
+
+fn outcome(code: u32, place: usize) {
+    print::decimal(code as u64);
+    print::text(b" at ");
+    print::decimal(place as u64);
+}
+
+// A blob judged, and read into the table that is lent.
+fn run(table: &mut [u32], kind: u32, counts: Counts, blob: &[u8]) {
+    print::text(b"kind ");
+    print::decimal(kind as u64);
+    print::text(b", ");
+    print::decimal(blob.len() as u64);
+    print::text(b" bytes: judged ");
+    let judged = reader::judge(kind, counts, blob);
+    outcome(judged.code, judged.place);
+    print::text(b", read ");
+    let answer = reader::read(kind, counts, blob, table);
+    outcome(answer.code, answer.place);
+    print::text(b", numbers written ");
+    print::decimal(changed(table));
+    print::text(b", sum ");
+    print::decimal(checksum(table));
+    print::text(b"\n");
+    if answer.code == 0 {
+        records(table, answer.place);
+    }
+}
+
+// With room for 1,025 records and a tail of five numbers.
+pub fn show(kind: u32, counts: Counts, blob: &[u8]) {
+    let mut table = [UNTOUCHED; 6155];
+    run(&mut table, kind, counts, blob);
+}
+
+// With this many numbers lent.
+pub fn show_lent(kind: u32, counts: Counts, blob: &[u8], lent: usize) {
+    let mut table = [UNTOUCHED; 6155];
+    if lent <= 6155 {
+        run(&mut table[..lent], kind, counts, blob);
+    }
+}
+
+// Writes `src` from the offset `at` on, as far as it fits.
+fn copy(dst: &mut [u8], at: usize, src: &[u8]) {
+    let mut to = at;
+    let mut i = 0;
+    while i < src.len() {
+        if dst.len() <= to {
+            return;
+        }
+        dst[to] = src[i];
+        to += 1;
+        i += 1;
+    }
+}
+
+// A blob of `front`, then `n` times `fill`, then `back`.
+pub fn show_filled(kind: u32, counts: Counts, front: &[u8], fill: u8, n: usize, back: &[u8]) {
+    let mut blob = [fill; 8192];
+    if front.len() <= 8 {
+        if n <= 8000 {
+            if back.len() <= 8 {
+                copy(&mut blob, 0, front);
+                copy(&mut blob, front.len() + n, back);
+                let len = front.len() + n + back.len();
+                show(kind, counts, &blob[..len]);
+            }
+        }
+    }
+}
