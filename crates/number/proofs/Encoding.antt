@@ -33,7 +33,7 @@ encode-none v h =
     simp (le-ltb _ _ h₁, le-ltb _ _ h₂, le-ltb _ _ h)
 
 module _ (out : List ℕ) (at : ℕ) (bs : List ℕ) where
-  put-fits : at + length bs ≤ length out → sets out at bs ≡ putAt out at bs
+  pub put-fits : at + length bs ≤ length out → sets out at bs ≡ putAt out at bs
   unfolding putAt
   put-fits h = simp (le-leb _ _ h) (sets-eq bs out at h)
 

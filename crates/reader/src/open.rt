@@ -124,7 +124,8 @@ fn code_at(src: &[u8], place: Place, at: usize, n: usize, d: usize) -> Code
     }
     let byte = src[at];
     let form = element::form_of(place, byte);
-    if is_allowed(form) {
+    let good = is_allowed(form);
+    if good {
         if d == 0 {
             return Code::Shut { code: 6 };
         }

@@ -11,7 +11,6 @@ Inv-loop table n₀ i₀ n i = Unit {0}
 abbrev μ-loop : tie.MeasureT-loop
 μ-loop table n₀ i₀ n i = length table - i
 
-
 pub changed-spec : {M : Type 1} → statement M
 changed-spec =
     tie.close

@@ -11,7 +11,6 @@ Inv-loop table sum₀ i₀ sum i = Unit {0}
 abbrev μ-loop : tie.MeasureT-loop
 μ-loop table sum₀ i₀ sum i = length table - i
 
-
 pub checksum-spec : {M : Type 1} → statement M
 checksum-spec =
     tie.close

@@ -12,7 +12,6 @@ Inv-loop dst₀ at src to₀ i₀ dst to i = length dst ≡ length dst₀
 abbrev μ-loop : tie.MeasureT-loop
 μ-loop dst₀ at src to₀ i₀ dst to i = length src - i
 
-
 pub copy-spec : {M : Type 1} → statement M
 copy-spec =
     tie.close

@@ -11,7 +11,6 @@ Inv-loop table nodes i₀ t4 t5 i = Unit {0}
 abbrev μ-loop : tie.MeasureT-loop
 μ-loop table nodes i₀ t4 t5 i = length table - i
 
-
 pub records-spec : {M : Type 1} → statement M
 records-spec =
     tie.close
