@@ -1,4 +1,10 @@
-// The node table's record. All else of this crate is in specs/ (the grammar, as definitions) and proofs/ (the theorems on it).
+// The node table's record and the bound on row counts. All else of this crate is in specs/ (the grammar, as definitions) and proofs/
+// (the theorems on it).
+ghost use mathlib.Core.Path.{_≡_};
+ghost use Rattle.grammar.specs.Judge.{known};
+use number::token::Counts;
+
+const MAX_ROWS: u32 = 0xFFFFFF;
 
 // One record of the node table.
 pub struct Node {
@@ -12,4 +18,17 @@ pub struct Node {
     pub at: u32,
     // the index just past the node's subtree
     pub after: u32,
+}
+
+// Whether all three counts are within the bound.
+pub fn known_counts(counts: Counts) -> bool
+    ensures { λ r. ⌜ r ≡ known counts ⌝ }
+{
+    if MAX_ROWS < counts.defs {
+        return false;
+    }
+    if MAX_ROWS < counts.refs {
+        return false;
+    }
+    counts.specs <= MAX_ROWS
 }

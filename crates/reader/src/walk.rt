@@ -19,8 +19,6 @@ use number::token::Counts;
 
 const MAX_BYTES: usize = 4096;
 
-const MAX_ROWS: u32 = 0xFFFFFF;
-
 const MAX_NODES: usize = 1024;
 
 const MAX_DEPTH: usize = 32;
@@ -344,19 +342,6 @@ fn array_at(
     }
 }
 
-// Whether all three counts are within the bound.
-fn known_counts(counts: Counts) -> bool
-    ensures { λ r. ⌜ r ≡ known counts ⌝ }
-{
-    if MAX_ROWS < counts.defs {
-        return false;
-    }
-    if MAX_ROWS < counts.refs {
-        return false;
-    }
-    counts.specs <= MAX_ROWS
-}
-
 // The root of a kind.
 fn root_at(out: &mut [u32], kind: u32, counts: Counts, src: &[u8]) -> Walk
     requires { ⌜ (length (now src) ≤ 4096) × (kind ≤ 4) ⌝ }
@@ -378,7 +363,7 @@ pub fn blob_at(out: &mut [u32], kind: u32, counts: Counts, src: &[u8]) -> Answer
     if 4 < kind {
         return Answer { code: 12, place: 0 };
     }
-    if known_counts(counts) {
+    if grammar::known_counts(counts) {
         if MAX_BYTES < src.len() {
             return Answer { code: 1, place: 0 };
         }

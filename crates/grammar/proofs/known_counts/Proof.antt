@@ -1,7 +1,7 @@
--- `reader::walk::known_counts` meets its contract. Assumes nothing.
+-- `grammar::known_counts` meets its contract. Assumes nothing.
 use borrow.Author.Tests.{le-leb, lt-leb}
-use Rattle.reader.proofs.walk.known_counts.Statement.{statement}
-use Rattle.reader.proofs.walk.known_counts.Tie as tie
+use Rattle.grammar.proofs.known_counts.Statement.{statement}
+use Rattle.grammar.proofs.known_counts.Tie as tie
 
 pub known-counts-spec : {M : Type 1} → statement M
 known-counts-spec =

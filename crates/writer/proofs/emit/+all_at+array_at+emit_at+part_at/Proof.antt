@@ -1,0 +1,156 @@
+-- The cycle of calls that emits: a subtree, an array, a part, and some subtrees one after the other. The depth left falls.
+-- Assumes nothing.
+use Prim.Native.Nat.{ℕ, _+_, _*_, _≤_, _<_}
+use mathlib.Core.Path.{_≡_, refl, _∙_}
+use mathlib.Core.List.{List}
+use native.Mathlib.Omega.{arith}
+use lib.ListN.{length}
+use borrow.Author.Needs.{needs}
+use Rattle.grammar.specs.Emit.{times, emit}
+use Rattle.writer.specs.Emission.{Emits}
+use Rattle.writer.specs.declared.emit.Emit.{Emit}
+use Rattle.writer.proofs.Laws.{found, emits-stop, emits-next, next-within, loop-stop, loop-more, loop-end}
+use Rattle.writer.proofs.Steps.{emit-deep, emit-past, emit-array, emit-part, array-stop, sizes-stop, array-next}
+use borrow.Fn.Kinds.{In}
+use borrow.Fn.PlainCycle.{Measures, is, falls, and}
+use Rattle.writer.proofs.emit.all_at.Reads as all-at
+use Rattle.writer.proofs.emit.all_at.Kinds as all-at-kinds
+use Rattle.writer.proofs.emit.+all_at+array_at+emit_at+part_at.Lts-all_at as all-at-lts
+use Rattle.writer.proofs.emit.array_at.Reads as array-at
+use Rattle.writer.proofs.emit.array_at.Kinds as array-at-kinds
+use Rattle.writer.proofs.emit.+all_at+array_at+emit_at+part_at.Lts-array_at as array-at-lts
+use Rattle.writer.proofs.emit.emit_at.Reads as emit-at
+use Rattle.writer.proofs.emit.emit_at.Kinds as emit-at-kinds
+use Rattle.writer.proofs.emit.+all_at+array_at+emit_at+part_at.Lts-emit_at as emit-at-lts
+use Rattle.writer.proofs.emit.part_at.Reads as part-at
+use Rattle.writer.proofs.emit.part_at.Kinds as part-at-kinds
+use Rattle.writer.proofs.emit.+all_at+array_at+emit_at+part_at.Lts-part_at as part-at-lts
+use Rattle.writer.proofs.emit.front_of.Reads as front-of-reads
+use Rattle.writer.proofs.emit.front_to.Reads as front-to-reads
+use Rattle.writer.proofs.emit.less.Reads as less-reads
+use Rattle.writer.proofs.emit.record_at.Reads as record-at-reads
+use Rattle.writer.proofs.emit.+all_at+array_at+emit_at+part_at.{statement}
+use Rattle.writer.proofs.emit.+all_at+array_at+emit_at+part_at.Tie.{close}
+
+abbrev μ-all-at : Measures 2 all-at-kinds.ps ℕ
+μ-all-at κs a = 4 * (a .1 .0) + 1
+
+abbrev μ-array-at : Measures 2 array-at-kinds.ps ℕ
+μ-array-at κs a = 4 * (a .1 .0) + 3
+
+abbrev μ-emit-at : Measures 2 emit-at-kinds.ps ℕ
+μ-emit-at κs a = 4 * (a .1 .0)
+
+abbrev μ-part-at : Measures 2 part-at-kinds.ps ℕ
+μ-part-at κs a = 4 * (a .1 .0) + 2
+
+abbrev all-at-at : ℕ → In 2 all-at-kinds.ps
+all-at-at t = and 2 all-at-kinds.ps (is 2 all-at-kinds.ps μ-all-at t) all-at.Pre
+
+abbrev all-at-below : ℕ → In 2 all-at-kinds.ps
+all-at-below t = and 2 all-at-kinds.ps (falls 2 all-at-kinds.ps _<_ μ-all-at t) all-at.Pre
+
+abbrev array-at-at : ℕ → In 2 array-at-kinds.ps
+array-at-at t = and 2 array-at-kinds.ps (is 2 array-at-kinds.ps μ-array-at t) array-at.Pre
+
+abbrev array-at-below : ℕ → In 2 array-at-kinds.ps
+array-at-below t =
+    and 2 array-at-kinds.ps (falls 2 array-at-kinds.ps _<_ μ-array-at t) array-at.Pre
+
+abbrev emit-at-at : ℕ → In 2 emit-at-kinds.ps
+emit-at-at t = and 2 emit-at-kinds.ps (is 2 emit-at-kinds.ps μ-emit-at t) emit-at.Pre
+
+abbrev emit-at-below : ℕ → In 2 emit-at-kinds.ps
+emit-at-below t = and 2 emit-at-kinds.ps (falls 2 emit-at-kinds.ps _<_ μ-emit-at t) emit-at.Pre
+
+abbrev part-at-at : ℕ → In 2 part-at-kinds.ps
+part-at-at t = and 2 part-at-kinds.ps (is 2 part-at-kinds.ps μ-part-at t) part-at.Pre
+
+abbrev part-at-below : ℕ → In 2 part-at-kinds.ps
+part-at-below t = and 2 part-at-kinds.ps (falls 2 part-at-kinds.ps _<_ μ-part-at t) part-at.Pre
+
+-- whatever ends the rest from here ends the whole
+abbrev all-at-Inv-loop : all-at-lts.InvT-loop
+all-at-Inv-loop out₀ d table count at n left₀ e₀ m₀ out left e m = (length out ≡ length out₀) × (e ≤ length out) × ((r : Emit) (fin : List ℕ) → Emits (times (emit d table) left m) e r out fin → Emits (times (emit d table) count n) at r out₀ fin)
+
+abbrev all-at-μ-loop : all-at-lts.MeasureT-loop
+all-at-μ-loop out₀ d table count at n left₀ e₀ m₀ out left e m = left
+
+pub +all-at+array-at+emit-at+part-at-spec : {M : Type 1} → statement M
++all-at+array-at+emit-at+part-at-spec =
+    close μ-all-at μ-array-at μ-emit-at μ-part-at (λ t. all-at-lts.spec (
+      emit-at-below t,
+      emit-at.Post,
+    )
+    (all-at-at t)
+    all-at.Post
+    all-at-Inv-loop
+    all-at-μ-loop
+    (λ c. (refl, c .before .before .pre .1, λ r fin y. y))
+    (λ c κs. search needs)
+    (λ c. search needs)
+    (λ c. search needs)
+    (λ c. search needs)
+    (λ c. let x = c .before .before .before .before in x .before .before .before .loop .inv .2 _ _ (loop-stop _ _ _ _ _ _ _ (x .before .before .loop-test .taken) (x .emit-at .ensures) (c .enum-told .given .1)))
+    (λ c. search needs)
+    (λ c. search needs)
+    (λ c. let x = c .before .before .before .before .before in let l = x .before .before .before .loop in (x .emit-at .kept .0 ∙ l .inv .0, next-within _ _ _ _ _ _ (found _ _ _ _ _ _ (c .before .e2 .given .1) (x .emit-at .ensures)), λ r fin y. l .inv .2 r fin (loop-more _ _ _ _ _ _ _ (x .before .before .loop-test .taken) (x .emit-at .ensures) _ _ (c .before .e2 .given .1) r fin y)))
+    (λ c. search needs)
+    (λ c. c .before .loop .inv .2 _ _ (loop-end _ _ _ _ _ (c .loop-test .left) (c .before .loop .inv .1))))
+    (λ t. array-at-lts.spec
+    (less-reads.Asked, less-reads.Learnt, part-at-below t, part-at.Post)
+    (array-at-at t)
+    array-at.Post
+    (λ c κs. search needs)
+    (λ c κs. search needs)
+    (λ c κs. search needs)
+    (λ c. search needs)
+    (λ c κs. search needs)
+    (λ c. search needs)
+    (λ c κs. search needs)
+    (λ c. search needs)
+    (λ c. search needs)
+    (λ c. search needs)
+    (λ c. array-next _ _ _ _ _ _ _ (c .before .before .before .before .before .before .before .before .before .before .before .before .before .before .before .before .part-at .ensures) _ _ (c .before .before .before .before .before .before .before .before .before .before .before .before .e .given .1) _ _ (c .before .before .before .before .before .before .before .before .before .part-at2 .ensures) _ _ _ _ _ (c .before .before .before .before .before .e2 .given .1) (omega (arith, c .before .before .before .before .before .before .before .before .before .before .before .before .before .before .before .before .before .before .less2 .ensures, c .before .before .before .before .before .before .before .before .before .before .before .before .before .before .before .before .before .before .before .less .ensures)) (c .before .before .part-at3 .ensures))
+    (λ c. search needs)
+    (λ c. sizes-stop _ _ _ _ _ _ _ (c .before .before .before .before .before .before .before .before .before .before .before .part-at .ensures) _ _ (c .before .before .before .before .before .before .before .e .given .1) _ _ (c .before .before .before .before .part-at2 .ensures) (c .enum-told .given .1))
+    (λ c. search needs)
+    (λ c. array-stop _ _ _ _ _ _ _ (c .before .before .before .before .part-at .ensures) (c .enum-told2 .given .1)))
+    (λ t. emit-at-lts.spec (
+      record-at-reads.Asked,
+      record-at-reads.Learnt,
+      front-of-reads.Asked,
+      front-of-reads.Learnt,
+      array-at-below t,
+      array-at.Post,
+      part-at-below t,
+      part-at.Post,
+    )
+    (emit-at-at t)
+    emit-at.Post
+    (λ c. emit-deep _ _ _ _ _ (c .if1 .taken))
+    (λ c. emit-past _ _ _ _ _ (c .before .if1 .left) (c .if2 .taken))
+    (λ c κs. search needs)
+    (λ c κs. search needs)
+    (λ c. search needs)
+    (λ c. search needs)
+    (λ c κs. search needs)
+    (λ c. search needs)
+    (λ c. emit-array _ _ _ _ (c .before .before .before .before .before .before .before .before .before .if1 .left) (c .before .before .before .before .before .before .before .before .if2 .left) _ (c .before .before .before .before .before .before .before .record-at .ensures) _ _ _ (c .before .before .before .before .if3 .taken) (c .before .before .array-at .ensures))
+    (λ c. search needs)
+    (λ c. search needs)
+    (λ c κs. search needs)
+    (λ c. search needs)
+    (λ c. emit-part _ _ _ _ (c .before .before .before .before .before .before .before .before .before .if1 .left) (c .before .before .before .before .before .before .before .before .if2 .left) _ (c .before .before .before .before .before .before .before .record-at .ensures) _ _ _ (c .before .before .before .before .before .before .front-of .result) (c .before .before .before .before .if3 .left) (c .before .before .before .before .before .before .front-of .ensures) (c .before .before .part-at .ensures)))
+    λ t. part-at-lts.spec
+    (front-to-reads.Asked, front-to-reads.Learnt, all-at-below t, all-at.Post)
+    (part-at-at t)
+    part-at.Post
+    (λ c κs. search needs)
+    (λ c. search needs)
+    (λ c κs. (omega (arith, c .before .before .before .before .before .before .before .before .before .before .pre .0), next-within _ _ _ _ _ _ (found _ _ _ _ _ _ (c .before .before .e .given .1) (c .before .before .before .before .before .before .front-to .ensures))))
+    (λ c. search needs)
+    (λ c. search needs)
+    (λ c. emits-next _ _ _ _ _ _ _ _ _ (found _ _ _ _ _ _ (c .before .before .before .before .before .e .given .1) (c .before .before .before .before .before .before .before .before .before .front-to .ensures)) (c .before .before .all-at .ensures))
+    (λ c. search needs)
+    (λ c. emits-stop _ _ _ _ _ (found _ _ _ _ _ _ (c .enum-told .given .1) (c .before .before .before .before .front-to .ensures)))

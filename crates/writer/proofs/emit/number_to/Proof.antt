@@ -1,0 +1,19 @@
+-- `writer::emit::number_to` meets its contract. Assumes nothing.
+use borrow.Author.Needs.{needs}
+use native.Mathlib.Omega.{arith}
+use Rattle.writer.proofs.Laws.{number-stop, number-next}
+use Rattle.writer.proofs.emit.number_to.Statement.{statement}
+use Rattle.writer.proofs.emit.number_to.Tie as tie
+
+pub number-to-spec : {M : Type 1} → statement M
+number-to-spec =
+    tie.close
+    (tie.spec
+    (λ c κs. search needs)
+    (λ c. number-stop _ _ _ _ (omega (arith, c .before .number-len .ensures)))
+    (λ c. search needs)
+    (λ c. number-stop _ _ _ _ (omega (arith, c .before .if1 .left, c .before .before .number-len .ensures)))
+    (λ c κs. search needs)
+    (λ c. search needs)
+    (λ c. search needs)
+    (λ c. number-next _ _ _ _ _ _ (omega (arith, c .before .before .before .before .if2 .left, c .before .before .before .before .before .if1 .left, c .before .before .before .before .before .before .number-len .ensures)) (omega (arith, c .before .before .before .before .before .before .number-len .ensures)) (c .before .before .put-number .ensures .1)))

@@ -1,0 +1,33 @@
+-- `writer::same_numbers` meets its contract. Assumes nothing.
+use borrow.Author.Needs.{needs}
+use Prim.Native.Nat.{_≤_, _-_}
+use mathlib.Core.Path.{_≡_, refl, _∙_}
+use lib.ListN.{length, drop}
+use Rattle.grammar.specs.Writer.{same}
+use Rattle.writer.proofs.Lists.{same-lengths, same-differ, same-step, same-end}
+use Rattle.writer.proofs.same_numbers.Statement.{statement}
+use Rattle.writer.proofs.same_numbers.Tie as tie
+
+abbrev Inv-loop : tie.InvT-loop
+Inv-loop a b i₀ i = (length a ≡ length b) × (i ≤ length a) × (same (drop i a) (drop i b) ≡ same a b)
+
+abbrev μ-loop : tie.MeasureT-loop
+μ-loop a b i₀ i = length a - i
+
+pub same-numbers-spec : {M : Type 1} → statement M
+same-numbers-spec =
+    tie.close
+    (tie.spec
+    Inv-loop
+    μ-loop
+    (λ c. same-lengths _ _ (c .if1 .taken))
+    (λ c. (search needs, search needs, refl))
+    (λ c. search needs)
+    (λ c. search needs)
+    (λ c. search needs)
+    (λ c. search needs)
+    (λ c. let l = c .before .before .before .before .loop in same-differ _ _ _ (c .before .before .before .loop-test .taken) (l .inv .0) (c .if2 .taken) ∙ l .inv .2)
+    (λ c. search needs)
+    (λ c. search needs)
+    (λ c. let l = c .before .before .before .before .loop in (l .inv .0, search needs, same-step _ _ _ (c .before .before .before .loop-test .taken) (l .inv .0) (c .if2 .left) ∙ l .inv .2))
+    (λ c. let l = c .before .loop in same-end _ _ _ (l .inv .0) (c .loop-test .left) ∙ l .inv .2))

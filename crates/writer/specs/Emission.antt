@@ -1,0 +1,56 @@
+-- What the emitting functions give and leave, by the emission of grammar's definitions. Internal: an auditor goes by Written.antt and
+-- grammar's `writing`.
+use Prim.Native.Nat.{ℕ, _+_, _-_, _≤_}
+use mathlib.Core.Path.{_≡_}
+use mathlib.Core.Bool.{cond}
+use mathlib.Core.List.{List, [], _∷_, _++_}
+use lib.ListN.{length}
+use lib.Seq.{sets}
+use lib.Dec.{leb, eqb}
+use Rattle.grammar.specs.Emit.{Layout, plain, valued, array, instance, callable, field, locals, bound, Emitted, torn, wrote, andThen, spell}
+use Rattle.grammar.specs.declared.Node.{Node}
+use Rattle.writer.specs.declared.emit.Emit.{Emit}
+use Rattle.writer.specs.declared.emit.Emit.the-variants.{Next, Stop}
+use Rattle.writer.specs.declared.emit.Front.{Front}
+use Rattle.writer.specs.declared.emit.Front.the-variants.{Single, Pair, Triple, Quad}
+
+abbrev pub numbersOf : Front → List ℕ
+numbersOf (Single x) = x ∷ []
+numbersOf (Pair x y) = x ∷ y ∷ []
+numbersOf (Triple x y z) = x ∷ y ∷ z ∷ []
+numbersOf (Quad x y z w) = x ∷ y ∷ z ∷ w ∷ []
+
+-- the numbers of a record's first part
+unfoldable pub frontOf : Layout → Node → List ℕ
+frontOf plain r = r .kind ∷ []
+frontOf valued r = r .kind ∷ r .a ∷ []
+frontOf array r = r .kind ∷ []
+frontOf instance r = r .kind ∷ r .b ∷ r .a ∷ r .children ∷ []
+frontOf callable r = r .b ∷ cond (eqb (r .a) 0) [] (r .a ∷ []) ++ (r .children - 1) ∷ []
+frontOf field r = 0x06 ∷ []
+frontOf locals r = 0x07 ∷ r .children ∷ []
+frontOf bound r = r .a ∷ []
+
+-- numbers alone, before record n
+abbrev pub spelled : List ℕ → ℕ → Emitted
+spelled vs n = wrote (spell vs []) n
+
+-- one emission after another
+unfoldable pub followed : Emitted → (ℕ → Emitted) → Emitted
+followed torn k = torn
+followed (wrote bs n) k = andThen (k n) (λ cs m. wrote (bs ++ cs) m)
+
+-- from `at` on in a buffer of `len` bytes: where all bytes fit, the next offset and record
+unfoldable pub resultOf : Emitted → (at len : ℕ) → Emit
+resultOf torn at len = Stop
+resultOf (wrote bs n) at len = cond (leb (at + length bs) len) (Next (at + length bs) n) Stop
+
+-- where all bytes fit they stand in the buffer; else only its length is promised
+unfoldable pub leavesOf : Emitted → (at : ℕ) → (before after : List ℕ) → Type 0
+leavesOf torn at before after = Unit {0}
+leavesOf (wrote bs n) at before after = at + length bs ≤ length before → after ≡ sets before at bs
+
+pub record Emits (e : Emitted) (at : ℕ) (r : Emit) (before after : List ℕ) : Type 0 where
+  pub result : r ≡ resultOf e at (length before)
+  pub left : leavesOf e at before after
+  pub kept : length after ≡ length before

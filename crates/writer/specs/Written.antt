@@ -1,0 +1,17 @@
+-- What the writer answers and what it leaves in the output (document 01, "Numbers on the panel").
+use Prim.Native.Nat.{ℕ}
+use mathlib.Core.List.{List, _++_}
+use lib.ListN.{length, drop}
+use Rattle.grammar.specs.Writer.{Written, refused, written}
+use Rattle.reader.specs.Answer.{answer}
+use Rattle.reader.specs.declared.Answer.{Answer}
+
+-- a refusal's number and place; 0 "done" with the bytes written
+unfoldable pub answerOf : Written → Answer
+answerOf (refused code place) = answer code place
+answerOf (written s) = answer 0 (length s)
+
+-- the output afterwards: "Any refusal keeps .. output .. unchanged; success changes only the .. bytes used"
+unfoldable pub outputOf : Written → List ℕ → List ℕ
+outputOf (refused code place) out = out
+outputOf (written s) out = s ++ drop (length s) out

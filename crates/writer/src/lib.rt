@@ -1,0 +1,98 @@
+// The writer: from a flat node table to the one blob that has it. The bytes are emitted into memory of its own, judged again by the
+// reader and held against the table, and only then copied to the output.
+ghost use mathlib.Core.Path.{_≡_};
+ghost use mathlib.Core.List.{_++_};
+ghost use Prim.Native.Nat.{_≤_};
+ghost use lib.ListN.{length, drop};
+ghost use Rattle.grammar.specs.Judge.{judge};
+ghost use Rattle.grammar.specs.Emit.{emitted};
+ghost use Rattle.grammar.specs.Writer.{same, isTable, confirmed, writing};
+ghost use Rattle.writer.specs.Written.{answerOf, outputOf};
+use crate::emit::Emit;
+use number::token::Counts;
+use reader::Answer;
+
+mod emit;
+
+const MAX_KIND: u32 = 4;
+
+const MAX_DEPTH: usize = 32;
+
+fn same_numbers(a: &[u32], b: &[u32]) -> bool
+    ensures { λ r. ⌜ r ≡ same (now (a .entry)) (now (b .entry)) ⌝ }
+{
+    if a.len() != b.len() {
+        return false;
+    }
+    let mut i = 0;
+    while i < a.len() {
+        if a[i] != b[i] {
+            return false;
+        }
+        i += 1;
+    }
+    true
+}
+
+// Whether the reader takes the whole blob and gives this table.
+fn confirms(kind: u32, counts: Counts, blob: &[u8], table: &[u32]) -> bool
+    ensures { λ r. ⌜ r ≡ isTable (now (table .entry)) (judge kind counts (now (blob .entry))) ⌝ }
+{
+    let mut seen = [0u32; 6144];
+    let answer = reader::read(kind, counts, blob, &mut seen);
+    let code = answer.code;
+    let nodes = answer.place;
+    if code != 0 {
+        return false;
+    }
+    let end = 6 * nodes;
+    same_numbers(&seen[..end], table)
+}
+
+// Copies `src` to the front of `out`.
+fn copy_to(out: &mut [u8], src: &[u8])
+    requires { ⌜ length (now src) ≤ length (now out) ⌝ }
+    ensures { λ _. ⌜ now (out .exit) ≡ now (src .entry) ++ drop (length (now (src .entry))) (now (out .entry)) ⌝ }
+{
+    let mut i = 0;
+    while i < src.len() {
+        out[i] = src[i];
+        i += 1;
+    }
+}
+
+// Writes the blob of this kind that has the table under these counts. A refusal leaves the output as it was.
+pub fn write(kind: u32, counts: Counts, table: &[u32], out: &mut [u8]) -> Answer
+    ensures { λ r. ⌜ (r ≡ answerOf (writing kind counts (now (table .entry)) (length (now (out .entry))))) × (now (out .exit) ≡ outputOf (writing kind counts (now (table .entry)) (length (now (out .entry)))) (now (out .entry))) ⌝ }
+{
+    if MAX_KIND < kind {
+        return Answer { code: 12, place: 0 };
+    }
+    if grammar::known_counts(counts) {
+        return write_known(kind, counts, table, out);
+    }
+    Answer { code: 13, place: 0 }
+}
+
+// The writer for a known kind and allowed counts.
+fn write_known(kind: u32, counts: Counts, table: &[u32], out: &mut [u8]) -> Answer
+    ensures { λ r. ⌜ (r ≡ answerOf (confirmed kind counts (now (table .entry)) (length (now (out .entry))) (emitted (now (table .entry))))) × (now (out .exit) ≡ outputOf (confirmed kind counts (now (table .entry)) (length (now (out .entry))) (emitted (now (table .entry)))) (now (out .entry))) ⌝ }
+{
+    let mut blob = [0u8; 4096];
+    match emit::emit_at(&mut blob, MAX_DEPTH, table, 0, 0) {
+        Emit::Next { at, node } => {
+            if confirms(kind, counts, &blob[..at], table) {
+                if out.len() < at {
+                    return Answer {
+                        code: 15,
+                        place: at,
+                    };
+                }
+                copy_to(out, &blob[..at]);
+                return Answer { code: 0, place: at };
+            }
+            Answer { code: 14, place: 0 }
+        }
+        Emit::Stop => Answer { code: 14, place: 0 },
+    }
+}
