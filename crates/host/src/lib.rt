@@ -1,9 +1,11 @@
-// The archive for programs in other languages: the reader on numbers and slices alone. A slice passes as a pointer and a length.
+// The archive for programs in other languages: the reader and the writer on numbers and slices alone. A slice passes as a pointer and a length.
 ghost use mathlib.Core.Path.{_≡_};
 ghost use Prim.Native.Nat.{_/_, _≤_};
 ghost use lib.ListN.{length};
 ghost use Rattle.grammar.specs.Judge.{judge, reading};
+ghost use Rattle.grammar.specs.Writer.{writing};
 ghost use Rattle.reader.specs.Answer.{answerOf, tableOf};
+ghost use Rattle.writer.specs.Written as writer;
 ghost use Rattle.host.specs.Packed.{packed, counts};
 use number::token::Counts;
 use reader::Answer;
@@ -51,4 +53,23 @@ pub extern "C" fn dcl_read(
         specs: type_specs,
     };
     pack(reader::read(kind, counts, blob, table))
+}
+
+#[no_mangle]
+pub extern "C" fn dcl_write(
+    kind: u32,
+    type_defs: u32,
+    type_refs: u32,
+    type_specs: u32,
+    table: &[u32],
+    out: &mut [u8],
+) -> u64
+    ensures { λ r. ⌜ (r ≡ packed (writer.answerOf (writing kind (counts «type_defs» «type_refs» «type_specs») (now (table .entry)) (length (now (out .entry)))))) × (now (out .exit) ≡ writer.outputOf (writing kind (counts «type_defs» «type_refs» «type_specs») (now (table .entry)) (length (now (out .entry)))) (now (out .entry))) ⌝ }
+{
+    let counts = Counts {
+        defs: type_defs,
+        refs: type_refs,
+        specs: type_specs,
+    };
+    pack(writer::write(kind, counts, table, out))
 }

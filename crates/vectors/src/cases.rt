@@ -1,8 +1,10 @@
-// Runs one case of the reader and prints what it answered and left.
+// Runs one case of the reader, and of the writer on what was read, and prints what they answered and left.
 use crate::print;
 use number::token::Counts;
 
 const UNTOUCHED: u32 = 0xA5A5A5A5;
+
+pub const KEPT: u8 = 0xA5;
 
 pub fn counts(defs: u32, refs: u32, specs: u32) -> Counts {
     Counts { defs, refs, specs }
@@ -60,10 +62,46 @@ fn records(table: &[u32], nodes: usize) {
     }
 }
 
-fn outcome(code: u32, place: usize) {
+pub fn outcome(code: u32, place: usize) {
     print::decimal(code as u64);
     print::text(b" at ");
     print::decimal(place as u64);
+}
+
+// Whether `out` begins with the blob and is untouched behind it.
+fn holds(out: &[u8], blob: &[u8]) -> bool {
+    let mut i = 0;
+    while i < out.len() {
+        let want = if i < blob.len() { blob[i] } else { KEPT };
+        if out[i] != want {
+            return false;
+        }
+        i += 1;
+    }
+    blob.len() <= out.len()
+}
+
+// A table written, and whether the blob comes back.
+fn write_back(table: &[u32], kind: u32, counts: Counts, blob: &[u8]) {
+    let mut out = [KEPT; 4100];
+    let answer = writer::write(kind, counts, table, &mut out);
+    print::text(b" written ");
+    outcome(answer.code, answer.place);
+    if holds(&out, blob) {
+        print::text(b", the blob\n");
+    } else {
+        print::text(b", another\n");
+    }
+}
+
+// The records that were read, written again.
+fn back(table: &[u32], nodes: usize, kind: u32, counts: Counts, blob: &[u8]) {
+    if nodes <= 1025 {
+        let used = 6 * nodes;
+        if used <= table.len() {
+            write_back(&table[..used], kind, counts, blob);
+        }
+    }
 }
 
 // A blob judged, and read into the table that is lent.
@@ -85,6 +123,7 @@ fn run(table: &mut [u32], kind: u32, counts: Counts, blob: &[u8]) {
     print::text(b"\n");
     if answer.code == 0 {
         records(table, answer.place);
+        back(table, answer.place, kind, counts, blob);
     }
 }
 

@@ -3,8 +3,10 @@ mod cases;
 mod numbers;
 mod print;
 mod reads;
+mod writes;
 
 fn main() {
     numbers::run();
     reads::run();
+    writes::run();
 }

@@ -11,6 +11,7 @@ use lib.Seq.{take-at}
 use Rattle.number.specs.Number.{Bytes}
 use Rattle.number.specs.declared.token.Counts.{Counts}
 use Rattle.grammar.specs.Kinds.{maxKind}
+use Rattle.grammar.specs.Limits.{maxBytes}
 use Rattle.grammar.specs.Table.{flat}
 use Rattle.grammar.specs.Judge.{Out, fault, done, known, reading}
 use Rattle.grammar.specs.Derives.{HasTable}
@@ -44,6 +45,18 @@ module _ (kind : ℕ) (counts : Counts) (t : List ℕ) where
       go w (grammar.no-blob h k f) = no-blob h k f
       go w (grammar.short s h l) = short s h l
       go w (grammar.given s h l) = given s h l
+
+  -- the bytes named are a blob's
+  pub write-place : (room : ℕ) → answerOf (writing kind counts t room) .place ≤ maxBytes
+  unfolding answerOf
+  write-place room = go _ (grammar.verdict kind counts t room)
+    where
+      go : (w : Written) → grammar.Verdict kind counts t room w → answerOf w .place ≤ maxBytes
+      go w (grammar.unknown-kind h) = omega arith
+      go w (grammar.too-many-rows h k) = omega arith
+      go w (grammar.no-blob h k f) = omega arith
+      go w (grammar.short s h l) = h .signature .short
+      go w (grammar.given s h l) = h .signature .short
 
   -- reading what was written gives the table back, in as many records as the table has
   pub read-written : (room : ℕ) (s u : List ℕ) → writing kind counts t room ≡ written s → length t ≤ length u
