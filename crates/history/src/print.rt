@@ -1,0 +1,71 @@
+// What the histories print: each call with its answer, on standard output.
+use libc::STDOUT_FILENO;
+use register::Register;
+
+pub fn text(s: &[u8]) {
+    io::write_all(STDOUT_FILENO, s);
+}
+
+fn decimal(n: u64) {
+    text(b" ");
+    io::print_decimal(STDOUT_FILENO, n);
+}
+
+fn standing(n: u32) {
+    match n {
+        0 => text(b" EMPTY"),
+        1 => text(b" BAD"),
+        2 => text(b" LOOP"),
+        3 => text(b" LEANS"),
+        4 => text(b" CLEAN"),
+        _ => text(b" ?"),
+    }
+}
+
+pub fn open(defs: u32, refs: u32, rows: usize) -> Register {
+    let c = register::open(defs, refs, rows);
+    text(b"open");
+    decimal(rows as u64);
+    text(b":");
+    decimal(c.code as u64);
+    text(b"\n");
+    c.register
+}
+
+pub fn file(g: Register, row: usize, blob: &[u8]) -> Register {
+    let c = register::file(g, row, blob);
+    text(b"file");
+    decimal(row as u64);
+    text(b":");
+    decimal(c.code as u64);
+    text(b"\n");
+    c.register
+}
+
+pub fn acknowledge(g: Register, row: usize) -> Register {
+    let c = register::acknowledge(g, row);
+    text(b"acknowledge");
+    decimal(row as u64);
+    text(b":");
+    decimal(c.code as u64);
+    text(b"\n");
+    c.register
+}
+
+// The answer, then standing, finding, place and mark.
+pub fn ask(g: Register, row: usize) {
+    let a = register::ask(g, row);
+    text(b"ask");
+    decimal(row as u64);
+    text(b":");
+    decimal(a.code as u64);
+    if a.code == 0 {
+        standing(a.standing);
+    } else {
+        decimal(a.standing as u64);
+    }
+    decimal(a.finding as u64);
+    decimal(a.place as u64);
+    decimal(a.mark as u64);
+    text(b"\n");
+}

@@ -1,0 +1,103 @@
+-- The steps of the closure: one more word joined, one more row relaxed, one more row closed over.
+-- Assumes nothing.
+use Prim.Native.Nat.{ℕ, _+_, _*_, _/_, _%_, _<_, _≤_}
+use mathlib.Core.Path.{_≡_, refl, sym, ap, ap₂, _∙_, subst}
+use mathlib.Core.List.{List}
+use mathlib.Core.Bool.{Bool, true, false, _||_, _&&_, or-false}
+use mathlib.Core.Logic.{_⊎_, inl, inr, ⊎-elim, by-cases}
+use native.Mathlib.Omega.{arith}
+use native.Mathlib.Decide.{ℕ-discrete, decLt}
+use native.Mathlib.Nat.{le-refl}
+use lib.ListN.{length, getD, set, length-set}
+use lib.Seq.{getD-set-same, getD-set-other}
+use lib.Bits.{bitOr}
+use native.Mathlib.Numerals.{add-one}
+use Rattle.reach.specs.Reach.{thru}
+use Rattle.reach.specs.Bits.{at, bit}
+use Rattle.reach.specs.Closing.{Ored, RowRelaxed, Relaxed}
+use Rattle.reach.proofs.BitLaws.{Apart, word-lt, pos-apart, bit-or}
+
+pub ored-none : (l : List ℕ) (d s : ℕ) → Ored l d s 0 l
+ored-none l d s = record { len = refl; done = λ y h. absurd (omega arith); rest = λ p h. refl }
+
+module _ {l₀ l : List ℕ} {d s x : ℕ} (w : ℕ) (o : Ored l₀ d s x l) (h : x < w) (in-d : d + w ≤ length l₀) (apart : Apart d s w) where
+  -- the source is not written
+  kept : getD l (s + x) 0 ≡ getD l₀ (s + x) 0
+  kept = ⊎-elim (λ a. o .rest (s + x) (inl (omega arith))) (λ a. o .rest (s + x) (inr (omega arith))) apart
+
+  value : ℕ
+  value = bitOr (getD l (d + x) 0) (getD l (s + x) 0)
+
+  ored-here : getD (set l (d + x) value) (d + x) 0 ≡ bitOr (getD l₀ (d + x) 0) (getD l₀ (s + x) 0)
+  unfolding value
+  ored-here =
+      getD-set-same l (d + x) (bitOr (getD l (d + x) 0) (getD l (s + x) 0)) 0 (omega (arith, o .len)) ∙ ap₂ bitOr (o .rest (d + x) (inr (omega arith))) kept
+
+  pub ored-more : Ored l₀ d s (x + 1) (set l (d + x) (bitOr (getD l (d + x) 0) (getD l (s + x) 0)))
+  unfolding value
+  ored-more = record {
+    len = length-set l (d + x) _ ∙ o .len;
+    done = λ y hy. by-cases (ℕ-discrete y x)
+        (λ e. subst (λ (z : ℕ). getD (set l (d + x) value) (d + z) 0 ≡ bitOr (getD l₀ (d + z) 0) (getD l₀ (s + z) 0)) (sym e) ored-here)
+        (λ ne. getD-set-other l (d + x) (d + y) value 0 (omega arith) ∙ o .done y (omega arith));
+    rest = λ p hp. getD-set-other l (d + x) p value 0 (⊎-elim (λ a. omega arith) (λ a. omega arith) hp)
+        ∙ o .rest p (⊎-elim (λ a. inl a) (λ a. inr (omega arith)) hp);
+  }
+
+-- ---- rows
+module _ (w k i : ℕ) (l₀ l : List ℕ) where
+  pub relaxed-or : at w l₀ i k ≡ true → Ored l₀ (i * w) (k * w) w l → RowRelaxed w k i l₀ l
+  unfolding at
+  relaxed-or hk o = record {
+    len = o .len;
+    here = λ s hs. rw (hk, o .done (s / 32) (word-lt hs)) (bit-or _ _ _);
+    others = λ r s ne hs. ap (λ (x : ℕ). bit x (s % 32)) (o .rest (r * w + s / 32) (pos-apart w r i (s / 32) ne (word-lt hs)));
+  }
+
+  pub relaxed-not : at w l₀ i k ≡ false → RowRelaxed w k i l₀ l₀
+  relaxed-not hk = record { len = refl; here = λ s hs. rw hk (sym (or-false _)); others = λ r s ne hs. refl }
+
+absorb : (a b : Bool) → a ≡ (a || (b && a))
+absorb true b = refl
+absorb false true = refl
+absorb false false = refl
+
+pub relaxed-self : (w k : ℕ) (l : List ℕ) → RowRelaxed w k k l l
+relaxed-self w k l = record { len = refl; here = λ s hs. absorb (at w l k s) (at w l k k); others = λ r s ne hs. refl }
+
+pub relaxed-none : (w n k : ℕ) (l : List ℕ) → Relaxed w n k l 0 l
+relaxed-none w n k l = record { len = refl; done = λ r s h hs. absurd (omega arith); rest = λ r s h hn hs. refl }
+
+module _ {w n k i : ℕ} {l₀ l l′ : List ℕ} (a : Relaxed w n k l₀ i l) (b : RowRelaxed w k i l l′) (hi : i < n) (hk : k < n) (nw : n ≤ 32 * w) where
+  -- row k is as it was
+  row-k : (s : ℕ) → s < 32 * w → at w l k s ≡ at w l₀ k s
+  row-k s hs =
+      by-cases (decLt k i) (λ (h : k < i). a .done k s h hs ∙ sym (absorb (at w l₀ k s) (at w l₀ k k))) (λ nh. a .rest k s (omega arith) hk hs)
+
+  row-i : (s : ℕ) → s < 32 * w → at w l′ i s ≡ (at w l₀ i s || (at w l₀ i k && at w l₀ k s))
+  row-i s hs =
+      let e₁ : at w l i s ≡ at w l₀ i s = a .rest i s (le-refl i) hi hs in
+      let e₂ : at w l i k ≡ at w l₀ i k = a .rest i k (le-refl i) hi (omega arith) in
+      b .here s hs ∙ rw (e₁, e₂, row-k s hs)
+
+  pub relaxed-more : Relaxed w n k l₀ (i + 1) l′
+  relaxed-more = record {
+    len = b .len ∙ a .len;
+    done = λ r s h hs. by-cases (ℕ-discrete r i)
+        (λ e. subst (λ (x : ℕ). at w l′ x s ≡ (at w l₀ x s || (at w l₀ x k && at w l₀ k s))) (sym e) (row-i s hs))
+        (λ ne. b .others r s ne hs ∙ a .done r s (omega arith) hs);
+    rest = λ r s h hn hs. b .others r s (omega arith) hs ∙ a .rest r s (omega arith) hn hs;
+  }
+
+-- l holds what l₀ reaches by rows below k
+abbrev pub Closed : ℕ → ℕ → List ℕ → ℕ → List ℕ → Type 0
+Closed w n l₀ k l = (r s : ℕ) → r < n → s < 32 * w → at w l r s ≡ thru (at w l₀) k r s
+
+pub closed-none : (w n : ℕ) (l : List ℕ) → Closed w n l 0 l
+unfolding thru
+closed-none w n l r s hr hs = refl
+
+pub closed-more : (w n k : ℕ) (l₀ l l′ : List ℕ) → n ≤ 32 * w → k < n → Closed w n l₀ k l → Relaxed w n k l n l′ → Closed w n l₀ (k + 1) l′
+unfolding thru
+closed-more w n k l₀ l l′ nw hk c x r s hr hs =
+    rw add-one (x .done r s hr hs ∙ rw (c r s hr hs, c r k hr (omega arith), c k s hk hs))

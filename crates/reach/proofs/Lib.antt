@@ -1,0 +1,5 @@
+pub mod Bools
+pub mod Reaching
+pub mod BitLaws
+pub mod Standings
+pub mod Closures

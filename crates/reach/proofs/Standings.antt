@@ -1,0 +1,123 @@
+-- Laws of `any`, `cleared` and `standing`.
+-- Assumes nothing.
+use Prim.Native.Nat.{ℕ, zero, suc, _+_, _*_, _<_, _≤_}
+use mathlib.Core.Path.{_≡_, refl, sym, ap, _∙_, subst}
+use mathlib.Core.List.{List}
+use mathlib.Core.Bool.{Bool, true, false, cond, _||_, false≢true}
+use mathlib.Core.Logic.{_⊎_, ⊎-elim, by-cases}
+use native.Mathlib.Omega.{arith}
+use native.Mathlib.Decide.{ℕ-discrete}
+use native.Mathlib.Nat.{le-refl}
+use native.Mathlib.Numerals.{add-one}
+use lib.ListN.{length, getD, set, length-set}
+use lib.Seq.{getD-set-same, getD-set-other}
+use lib.Dec.{eqb}
+use Rattle.reach.specs.Reach.{Graph, thru}
+use Rattle.reach.proofs.Bools.{or-left, or-right, or-cases}
+use Rattle.reach.proofs.Reaching.{thru-cong}
+use Rattle.reach.specs.Standing.{any, trouble, leaning, standing, cleared, leansIn, losesIn}
+use Rattle.reach.specs.Bits.{at}
+
+pub any-intro : (n : ℕ) (p : ℕ → Bool) (j : ℕ) → j < n → p j ≡ true → any n p ≡ true
+unfolding any
+any-intro zero p j h e = absurd (omega arith)
+any-intro (suc n) p j h e =
+    by-cases (ℕ-discrete j n) (λ (q : j ≡ n). or-right (any n p) (subst (λ (x : ℕ). p x ≡ true) q e))
+    (λ ne. or-left (p n) (any-intro n p j (omega arith) e))
+
+pub any-elim : (n : ℕ) (p : ℕ → Bool) → any n p ≡ true → (j : ℕ) × (j < n) × (p j ≡ true)
+unfolding any
+any-elim zero p e = absurd (false≢true e)
+any-elim (suc n) p e = ⊎-elim (λ a. let x = any-elim n p a in (x .0, omega (arith, x .1), x .2)) (λ b. (n, le-refl (suc n), b)) (or-cases (any n p) (p n) e)
+
+pub any-none : (p : ℕ → Bool) → any 0 p ≡ false
+unfolding any
+any-none p = refl
+
+pub any-more : (n : ℕ) (p : ℕ → Bool) → any n p ≡ false → p n ≡ false → any (n + 1) p ≡ false
+unfolding any
+any-more n p h k = rw add-one (rw (h, k))
+
+pub any-cong : (n : ℕ) (p q : ℕ → Bool) → ((j : ℕ) → j < n → p j ≡ q j) → any n p ≡ any n q
+unfolding any
+any-cong zero p q e = refl
+any-cong (suc n) p q e = rw (any-cong n p q (λ j h. e j (omega arith)), e n (le-refl (suc n)))
+
+-- ---- cleared
+pub length-picked : (b : Bool) (l : List ℕ) (n : ℕ) → length (cond b (set l n 0) l) ≡ length l
+length-picked true l n = length-set l n 0
+length-picked false l n = refl
+
+pub length-cleared : (l : List ℕ) (n : ℕ) (p : ℕ → Bool) → length (cleared l n p) ≡ length l
+unfolding cleared
+length-cleared l zero p = refl
+length-cleared l (suc n) p = length-picked (p n) (cleared l n p) n ∙ length-cleared l n p
+
+pub cleared-none : (l : List ℕ) (p : ℕ → Bool) → l ≡ cleared l 0 p
+unfolding cleared
+cleared-none l p = refl
+
+pub cleared-set : (l : List ℕ) (n : ℕ) (p : ℕ → Bool) → p n ≡ true → set (cleared l n p) n 0 ≡ cleared l (n + 1) p
+unfolding cleared
+cleared-set l n p h = rw add-one (rw h)
+
+pub cleared-kept : (l : List ℕ) (n : ℕ) (p : ℕ → Bool) → p n ≡ false → cleared l n p ≡ cleared l (n + 1) p
+unfolding cleared
+cleared-kept l n p h = rw add-one (rw h)
+
+pub cleared-cong : (l : List ℕ) (n : ℕ) (p q : ℕ → Bool) → ((j : ℕ) → j < n → p j ≡ q j) → cleared l n p ≡ cleared l n q
+unfolding cleared
+cleared-cong l zero p q e = refl
+cleared-cong l (suc n) p q e = rw (cleared-cong l n p q (λ j h. e j (omega arith)), e n (le-refl (suc n)))
+
+getD-picked-other : (b : Bool) (l : List ℕ) (n j : ℕ) → (j ≡ n → ⊥) → getD (cond b (set l n 0) l) j 0 ≡ getD l j 0
+getD-picked-other true l n j ne = getD-set-other l n j 0 0 ne
+getD-picked-other false l n j ne = refl
+
+getD-picked-same : (b : Bool) (l : List ℕ) (n : ℕ) → n < length l → getD (cond b (set l n 0) l) n 0 ≡ cond b 0 (getD l n 0)
+getD-picked-same true l n h = getD-set-same l n 0 0 h
+getD-picked-same false l n h = refl
+
+pub getD-cleared-out : (l : List ℕ) (n : ℕ) (p : ℕ → Bool) (j : ℕ) → n ≤ j → getD (cleared l n p) j 0 ≡ getD l j 0
+unfolding cleared
+getD-cleared-out l zero p j h = refl
+getD-cleared-out l (suc n) p j h = getD-picked-other (p n) (cleared l n p) n j (omega arith) ∙ getD-cleared-out l n p j (omega arith)
+
+cleared-here : (l : List ℕ) (n : ℕ) (p : ℕ → Bool) → n < length l → getD (cleared l (suc n) p) n 0 ≡ cond (p n) 0 (getD l n 0)
+unfolding cleared
+cleared-here l n p h =
+    getD-picked-same (p n) (cleared l n p) n (omega (arith, length-cleared l n p)) ∙ ap (cond (p n) 0) (getD-cleared-out l n p n (le-refl n))
+
+pub getD-cleared : (l : List ℕ) (n : ℕ) (p : ℕ → Bool) (j : ℕ) → j < n → n ≤ length l → getD (cleared l n p) j 0 ≡ cond (p j) 0 (getD l j 0)
+unfolding cleared
+getD-cleared l zero p j h k = absurd (omega arith)
+getD-cleared l (suc n) p j h k =
+    by-cases (ℕ-discrete j n)
+    (λ (e : j ≡ n). subst (λ (x : ℕ). getD (cleared l (suc n) p) x 0 ≡ cond (p x) 0 (getD l x 0)) (sym e) (cleared-here l n p k))
+    (λ ne. getD-picked-other (p n) (cleared l n p) n j ne ∙ getD-cleared l n p j (omega arith) (omega arith))
+
+-- ---- standing goes by the first n rows alone
+module _ (n : ℕ) (s t : ℕ → ℕ) (g h : Graph) (es : (i : ℕ) → i < n → s i ≡ t i) (eg : (r q : ℕ) → r < n → q < n → g r q ≡ h r q) where
+  pub trouble-cong : (j : ℕ) → j < n → trouble n s g j ≡ trouble n t h j
+  unfolding trouble
+  trouble-cong j hj = rw (es j hj, thru-cong n g h eg n (le-refl n) j j hj hj)
+
+  pub leaning-cong : (i : ℕ) → i < n → leaning n s g i ≡ leaning n t h i
+  unfolding leaning
+  leaning-cong i hi = any-cong n _ _ (λ j hj. rw (thru-cong n g h eg n (le-refl n) i j hi hj, trouble-cong j hj))
+
+  pub standing-cong : (i : ℕ) → i < n → standing n s g i ≡ standing n t h i
+  unfolding standing
+  standing-cong i hi = rw (es i hi, thru-cong n g h eg n (le-refl n) i i hi hi, leaning-cong i hi)
+
+-- ---- the same tests over the closed table
+module _ (w n : ℕ) (refs m states : List ℕ) (le : n ≤ 32 * w) (e : (r s : ℕ) → r < n → s < 32 * w → at w m r s ≡ thru (at w refs) n r s) where
+  pub loop-in : (i : ℕ) → i < n → at w m i i ≡ thru (at w refs) n i i
+  loop-in i hi = e i i hi (omega arith)
+
+  pub leaning-in : (i : ℕ) → i < n → any n (leansIn w m states i) ≡ leaning n (λ j. getD states j 0) (at w refs) i
+  unfolding leaning trouble
+  leaning-in i hi = any-cong n _ _ (λ j hj. rw (e i j hi (omega arith), e j j hj (omega arith)))
+
+  pub loses-in : (i : ℕ) → i < n → (l : List ℕ) → cleared l n (losesIn w m i) ≡ cleared l n (λ j. eqb j i || thru (at w refs) n j i)
+  loses-in i hi l = cleared-cong l n _ _ (λ j hj. rw (e j i hj (omega arith)))

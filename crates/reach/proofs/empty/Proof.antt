@@ -1,0 +1,47 @@
+-- `reach::empty` meets its contract. Assumes nothing.
+use borrow.Author.Needs.{needs}
+use Prim.Native.Nat.{ℕ, _+_, _≤_, _-_, _*_}
+use native.Mathlib.Omega.{arith}
+use mathlib.Core.Path.{_≡_, ap, _∙_, subst}
+use mathlib.Core.List.{List}
+use lib.ListN.{length, set}
+use denote.Ref.{now}
+use Rattle.reach.specs.Bits.{zeroed}
+use Rattle.reach.proofs.BitLaws.{zeroed-none, zeroed-more, length-zeroed}
+use Rattle.reach.proofs.empty.Statement.{statement}
+use Rattle.reach.proofs.empty.Tie as tie
+
+abbrev Inv-loop : tie.InvT-loop
+Inv-loop m₀ w r d x₀ m x = (x ≤ w) × (m ≡ zeroed m₀ (r * w) x)
+
+abbrev μ-loop : tie.MeasureT-loop
+μ-loop m₀ w r d x₀ m x = w - x
+
+loop-again : tie.Need-loop-again Inv-loop μ-loop
+loop-again c =
+    let a = c .before .before .args in
+    let x = c .before .loop .x in
+    (search needs, ap (λ (l : List ℕ). set l (a .r * a .w + x) 0) (c .before .loop .inv .1) ∙ zeroed-more (now (a .m)) (a .r * a .w) x)
+
+returns : tie.Need-returns Inv-loop μ-loop
+returns c =
+    let a = c .before .before .args in
+    let e : c .before .loop .x ≡ a .w = omega arith in
+    subst (λ (x : ℕ). c .before .loop .m ≡ zeroed (now (a .m)) (a .r * a .w) x) e (c .before .loop .inv .1)
+
+pub empty-spec : {M : Type 1} → statement M
+empty-spec =
+    tie.close
+    (tie.spec
+    Inv-loop
+    μ-loop
+    (λ c. search needs)
+    (λ c. (search needs, zeroed-none _ _))
+    (λ c. search needs)
+    (λ c. search needs)
+    (λ c. omega (arith, simp length-zeroed at (ap length (c .before .loop .inv .1))))
+    (λ c. search needs)
+    (λ c. search needs)
+    loop-again
+    (λ c. simp length-zeroed at (ap length (c .before .loop .inv .1)))
+    returns)

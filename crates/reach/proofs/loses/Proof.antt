@@ -1,0 +1,13 @@
+-- `reach::loses` meets its contract. Assumes nothing.
+use borrow.Author.Needs.{needs}
+use borrow.Author.Tests.{eq-eqb, ne-eqb}
+use Rattle.reach.proofs.loses.Statement.{statement}
+use Rattle.reach.proofs.loses.Tie as tie
+
+pub loses-spec : {M : Type 1} → statement M
+loses-spec =
+    tie.close
+    (tie.spec
+    (λ c. simp (eq-eqb _ _ (c .if1 .taken)))
+    (λ c κs. search needs)
+    (λ c. simp (ne-eqb _ _ (c .before .if1 .left)) (c .get .ensures)))

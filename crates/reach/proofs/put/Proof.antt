@@ -1,0 +1,34 @@
+-- `reach::put` meets its contract. Assumes nothing.
+use borrow.Author.Needs.{needs}
+use Rattle.reach.specs.Bits.{putBit}
+use Rattle.reach.proofs.BitLaws.{one-shift}
+use Prim.Native.Nat.{ℕ, _+_, _*_, _/_, _%_}
+use mathlib.Core.Path.{ap}
+use lib.ListN.{set, getD}
+use lib.Bits.{bitOr}
+use denote.Ref.{now}
+use native.Mathlib.Omega.{arith}
+use Rattle.reach.proofs.put.Statement.{statement}
+use Rattle.reach.proofs.put.Tie as tie
+
+returns : tie.Need-returns
+unfolding putBit
+returns c =
+    let a = c .before .args in
+    let k = a .r * a .w + a .s / 32 in
+    ap (λ (x : ℕ). set (now (a .m)) k (bitOr (getD (now (a .m)) k 0) x)) (one-shift (a .s % 32) (omega arith))
+
+pub put-spec : {M : Type 1} → statement M
+put-spec =
+    tie.close
+    (tie.spec
+    (λ c. search needs)
+    (λ c. search needs)
+    (λ c. search needs)
+    (λ c. search needs)
+    (λ c. search needs)
+    (λ c. search needs)
+    (λ c. search needs)
+    (λ c. search needs)
+    (λ c. search needs)
+    returns)

@@ -1,0 +1,27 @@
+-- What the steps of the closure leave of a table. Internal: the contract of `close` goes by `thru`.
+use Prim.Native.Nat.{ℕ, _+_, _*_, _<_, _≤_}
+use mathlib.Core.Path.{_≡_}
+use mathlib.Core.List.{List}
+use mathlib.Core.Bool.{_||_, _&&_}
+use mathlib.Core.Logic.{_⊎_}
+use lib.ListN.{length, getD}
+use lib.Bits.{bitOr}
+use Rattle.reach.specs.Bits.{at}
+
+-- l is l₀ with its first x words from d on joined with those from s on
+pub record Ored (l₀ : List ℕ) (d s x : ℕ) (l : List ℕ) : Type 0 where
+  pub len : length l ≡ length l₀
+  pub done : (y : ℕ) → y < x → getD l (d + y) 0 ≡ bitOr (getD l₀ (d + y) 0) (getD l₀ (s + y) 0)
+  pub rest : (p : ℕ) → (p < d) ⊎ (d + x ≤ p) → getD l p 0 ≡ getD l₀ p 0
+
+-- l is l₀ with row i relaxed by row k
+pub record RowRelaxed (w k i : ℕ) (l₀ l : List ℕ) : Type 0 where
+  pub len : length l ≡ length l₀
+  pub here : (s : ℕ) → s < 32 * w → at w l i s ≡ (at w l₀ i s || (at w l₀ i k && at w l₀ k s))
+  pub others : (r s : ℕ) → (r ≡ i → ⊥) → s < 32 * w → at w l r s ≡ at w l₀ r s
+
+-- l is l₀ with its first i rows of n relaxed by row k
+pub record Relaxed (w n k : ℕ) (l₀ : List ℕ) (i : ℕ) (l : List ℕ) : Type 0 where
+  pub len : length l ≡ length l₀
+  pub done : (r s : ℕ) → r < i → s < 32 * w → at w l r s ≡ (at w l₀ r s || (at w l₀ r k && at w l₀ k s))
+  pub rest : (r s : ℕ) → i ≤ r → r < n → s < 32 * w → at w l r s ≡ at w l₀ r s

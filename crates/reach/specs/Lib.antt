@@ -1,0 +1,4 @@
+pub mod Reach
+pub mod Bits
+pub mod Closing
+pub mod Standing

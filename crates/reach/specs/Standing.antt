@@ -1,0 +1,42 @@
+-- Document 01, "The register": the standing of a row among n rows, from each row's state (0 never filed, 1 refused, else accepted) and
+-- the references; and the marks that a filing takes away. Row r has the index r - 1.
+use Prim.Native.Nat.{ℕ, zero, suc}
+use mathlib.Core.List.{List}
+use mathlib.Core.Bool.{Bool, false, cond, _||_, _&&_}
+use lib.ListN.{set, getD}
+use lib.Dec.{ltb, eqb}
+use Rattle.reach.specs.Reach.{Graph, thru}
+use Rattle.reach.specs.Bits.{at}
+
+-- a test holds of some index below n
+unfoldable pub any : ℕ → (ℕ → Bool) → Bool
+any zero p = false
+any (suc n) p = any n p || p n
+
+-- "an EMPTY, BAD or LOOP row"
+unfoldable pub trouble : ℕ → (ℕ → ℕ) → Graph → ℕ → Bool
+trouble n state names i = ltb (state i) 2 || thru names n i i
+
+-- "reaches an EMPTY, BAD or LOOP row"
+unfoldable pub leaning : ℕ → (ℕ → ℕ) → Graph → ℕ → Bool
+leaning n state names i = any n (λ j. thru names n i j && trouble n state names j)
+
+-- "Standing, first that fits: 0 EMPTY never filed; 1 BAD refused; 2 LOOP reaches itself; 3 LEANS reaches an EMPTY, BAD or LOOP row; 4
+-- CLEAN"
+unfoldable pub standing : ℕ → (ℕ → ℕ) → Graph → ℕ → ℕ
+standing n state names i =
+    cond (eqb (state i) 0) 0
+    (cond (eqb (state i) 1) 1 (cond (thru names n i i) 2 (cond (leaning n state names i) 3 4)))
+
+-- l with 0 at each index below n of which p holds
+unfoldable pub cleared : List ℕ → ℕ → (ℕ → Bool) → List ℕ
+cleared l zero p = l
+cleared l (suc n) p = cond (p n) (set (cleared l n p) n 0) (cleared l n p)
+
+-- row j is "an EMPTY, BAD or LOOP row" that row i reaches, where m is a closed table of w words to a row
+abbrev pub leansIn : ℕ → List ℕ → List ℕ → ℕ → ℕ → Bool
+leansIn w m states i j = at w m i j && (ltb (getD states j 0) 2 || at w m j j)
+
+-- "Filing r unmarks r and every row that reaches r": row j, when row i is filed
+abbrev pub losesIn : ℕ → List ℕ → ℕ → ℕ → Bool
+losesIn w m i j = eqb j i || at w m j i

@@ -1,0 +1,95 @@
+-- The ways out of `judge_row`: with a record lent for each of 1,024 nodes the reader's outcome is the judge's, and the rows that the
+-- table's records name are those of the derivation.
+-- Assumes nothing.
+use Prim.Native.Nat.{ℕ, _+_, _*_, _/_, _≤_}
+use native.Mathlib.Omega.{arith}
+use mathlib.Core.Path.{_≡_, refl, ap, _∙_}
+use mathlib.Core.List.{List, _++_}
+use lib.ListN.{length, drop, replicate, length-replicate}
+use lib.Dec.{leb}
+use borrow.Author.Tests.{le-leb}
+use Rattle.number.specs.declared.token.Counts.{Counts}
+use Rattle.grammar.specs.Limits.{maxNodes}
+use Rattle.grammar.specs.Table.{flat}
+use Rattle.grammar.specs.Judge.{Out, fault, done, bind, check, judge, reading}
+use Rattle.grammar.proofs.Sound.{Holds, holds}
+use Rattle.grammar.proofs.Bounds.{Ends, ends-judge}
+use Rattle.grammar.proofs.Refusals.{judge-refuses}
+use Rattle.reader.specs.Answer.{answerOf, tableOf}
+use Rattle.reader.specs.declared.Answer.{Answer}
+use Rattle.reach.specs.Bits.{emptied}
+use Rattle.register.specs.Size.{tableSize}
+use Rattle.register.specs.Named.{collected, namedBy}
+use Rattle.register.specs.Calls.{findingOf}
+use Rattle.register.specs.declared.Finding.{Finding}
+use Rattle.register.proofs.Collects.{collected-cong, named-front}
+
+-- 11 is not given where every node has a record
+enough : (o : Out) (lent : ℕ) → Holds (Ends 0) o → maxNodes ≤ lent → bind o (λ at n rs. check (leb n lent) 11 n (λ _. done at n rs)) ≡ o
+enough (fault code place) lent h l = refl
+enough (done at n rs) lent (holds h) l = rw (le-leb n lent (omega (arith, h)))
+
+reading-judge : (kind : ℕ) (counts : Counts) (s : List ℕ) (lent : ℕ) → maxNodes ≤ lent → reading kind counts s lent ≡ judge kind counts s
+unfolding reading
+reading-judge kind counts s lent l = enough (judge kind counts s) lent (ends-judge kind counts s) l
+
+abbrev finding : (state code place : ℕ) → Finding
+finding state code place = record { state = state; code = code; place = place }
+
+-- the row's set and finding, of any outcome
+abbrev Kept : ℕ → Out → ℕ → List ℕ → Finding → List ℕ → Type 0
+Kept w o i m f m′ = (f ≡ findingOf o) × (m′ ≡ namedBy w o i m)
+
+module _ (w i : ℕ) (m m₁ t t₁ : List ℕ) (r : Answer) (e : m₁ ≡ emptied w m i) where
+  kept-refused : (o : Out) → r ≡ answerOf o → (r .code ≡ 0 → ⊥) → Kept w o i m (finding 1 (r .code) (r .place)) m₁
+  unfolding answerOf namedBy
+  kept-refused (fault code place) a z = (ap (λ (x : Answer). finding 1 (x .code) (x .place)) a, e)
+  kept-refused (done at n rs) a z = absurd (z (ap (λ (x : Answer). x .code) a))
+
+  kept-accepted : (o : Out) → ((c p : ℕ) → o ≡ fault c p → 1 ≤ c) → Holds (Ends 0) o → r ≡ answerOf o → t₁ ≡ tableOf o t → r .code ≡ 0
+      → (m₂ : List ℕ) → m₂ ≡ collected w t₁ (r .place) i m₁ → Kept w o i m (finding 2 0 0) m₂
+  unfolding answerOf tableOf namedBy
+  kept-accepted (fault code place) f h a b z m₂ q =
+      let g = f code place refl in
+      let k : r .code ≡ code = ap (λ (x : Answer). x .code) a in
+      absurd (omega arith)
+  kept-accepted (done at n rs) f (holds h) a b z m₂ q =
+      let k : r .place ≡ n = ap (λ (x : Answer). x .place) a in (
+        refl,
+        q ∙ rw (b, k, e)
+            (collected-cong w (flat rs ++ drop (6 * n) t) (flat rs) i (emptied w m i) n
+            (λ j l. named-front w rs (drop (6 * n) t) j (omega (arith, h)))),
+      )
+
+kept-nodes : (r : Answer) (o : Out) → ((c p : ℕ) → o ≡ fault c p → 1 ≤ c) → Holds (Ends 0) o → r ≡ answerOf o → r .code ≡ 0 → r .place ≤ maxNodes
+unfolding answerOf
+kept-nodes r (fault code place) f h a z =
+    let g = f code place refl in
+    let k : r .code ≡ code = ap (λ (x : Answer). x .code) a in
+    absurd (omega arith)
+kept-nodes r (done at n rs) f (holds h) a z = let k : r .place ≡ n = ap (λ (x : Answer). x .place) a in omega (arith, h)
+
+-- the table that is lent to the reader
+abbrev lent : List ℕ
+lent = replicate tableSize 0
+
+-- t is the table read
+module _ (counts : Counts) (s t : List ℕ) (r : Answer)
+    (x : (r ≡ answerOf (reading 0 counts s (length lent / 6))) × (t ≡ tableOf (reading 0 counts s (length lent / 6)) lent)) where
+  same : reading 0 counts s (length lent / 6) ≡ judge 0 counts s
+  same = reading-judge 0 counts s (length lent / 6) (omega (arith, length-replicate {A = ℕ} tableSize 0))
+
+  refuses : (c p : ℕ) → judge 0 counts s ≡ fault c p → 1 ≤ c
+  refuses c p e = judge-refuses 0 counts s c p e .0 .0
+
+  pub row-nodes : r .code ≡ 0 → r .place ≤ maxNodes
+  row-nodes z = kept-nodes r (judge 0 counts s) refuses (ends-judge 0 counts s) (x .0 ∙ ap answerOf same) z
+
+  module _ (w i : ℕ) (m m₁ : List ℕ) (e : m₁ ≡ emptied w m i) where
+    pub row-refused : (r .code ≡ 0 → ⊥) → Kept w (judge 0 counts s) i m (finding 1 (r .code) (r .place)) m₁
+    row-refused z = kept-refused w i m m₁ lent t r e (judge 0 counts s) (x .0 ∙ ap answerOf same) z
+
+    pub row-accepted : r .code ≡ 0 → (m₂ : List ℕ) → m₂ ≡ collected w t (r .place) i m₁ → Kept w (judge 0 counts s) i m (finding 2 0 0) m₂
+    row-accepted z m₂ q =
+        kept-accepted w i m m₁ lent t r e (judge 0 counts s) refuses (ends-judge 0 counts s) (x .0 ∙ ap answerOf same)
+        (x .1 ∙ ap (λ (o : Out). tableOf o lent) same) z m₂ q

@@ -1,0 +1,10 @@
+pub mod Gates
+pub mod StandingCases
+pub mod Collects
+pub mod Judging
+pub mod Simulation
+pub mod Within
+pub mod FreshChecks
+pub mod Histories
+pub mod Demand
+pub mod Refusals

@@ -1,0 +1,27 @@
+-- `register::acknowledge` meets its contract. Assumes nothing.
+use borrow.Author.Needs.{needs}
+use borrow.Author.Tests.{eq-eqb, ne-eqb}
+use mathlib.Core.Path.{sym, _∙_}
+use native.Mathlib.Omega.{arith}
+use Rattle.register.specs.Calls.{ackOf}
+use Rattle.register.proofs.Gates.{gate-ok}
+use Rattle.register.proofs.acknowledge.Statement.{statement}
+use Rattle.register.proofs.acknowledge.Tie as tie
+
+returns : tie.Need-returns
+unfolding ackOf
+returns c = simp (← c .before .admit .ensures, ne-eqb _ _ (c .if1 .taken))
+
+returns-2 : tie.Need-returns-2
+unfolding ackOf
+returns-2 c = simp (← c .before .before .admit .ensures, eq-eqb _ _ (c .before .if1 .left)) (c .acknowledge-at .ensures)
+
+pub acknowledge-spec : {M : Type 1} → statement M
+acknowledge-spec =
+    tie.close
+    (tie.spec
+    (λ c κs. search needs)
+    returns
+    (λ c. let h = gate-ok _ _ (sym (c .before .admit .ensures) ∙ c .if1 .left) in omega arith)
+    (λ c κs. let h = gate-ok _ _ (sym (c .before .admit .ensures) ∙ c .if1 .left) in omega arith)
+    returns-2)

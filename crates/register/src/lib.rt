@@ -1,0 +1,319 @@
+// The register of the TypeSpec rows of one module, a struct by value. Row r has the index r - 1.
+ghost use mathlib.Core.Path.{_≡_};
+ghost use Prim.Native.Nat.{ℕ, _+_, _*_, _≤_, _<_};
+ghost use lib.ListN.{length};
+ghost use Rattle.reach.specs.Reach.{thru};
+ghost use Rattle.reach.specs.Bits.{at};
+ghost use Rattle.grammar.specs.Judge.{judge};
+ghost use Rattle.register.specs.Size.{maxSize, words};
+ghost use Rattle.register.specs.Outcome.{judged};
+ghost use Rattle.register.specs.Named.{namedBy};
+ghost use Rattle.register.specs.Calls.{blank, openOf, gate, findingOf, filed, fileOf, marksAfter, ackAt, ackOf, askAt, askOf, standingOf};
+use number::token::Counts;
+
+mod named;
+
+// The most rows, and the words of 32 bits that hold a row's set of rows.
+const SIZE: usize = 64;
+
+const WORDS: usize = 2;
+
+// The numbers of a node table that has a record for every node.
+const TABLE: usize = 6 * 1024;
+
+pub struct Register {
+    // the row counts of TypeDef and TypeRef
+    pub defs: u32,
+    pub refs: u32,
+    // the number of rows, which is the row count of TypeSpec
+    pub rows: usize,
+    // of each row: 0 never filed, 1 refused, 2 accepted
+    pub states: [u32; SIZE],
+    // of each refused row: the refusal's number and place
+    pub codes: [u32; SIZE],
+    pub places: [usize; SIZE],
+    // of each row: 0 for no mark
+    pub marks: [u32; SIZE],
+    // of each row: the set of rows that its modifiers name
+    pub names: [u32; SIZE * WORDS],
+}
+
+// The number that a call answers, and the register afterwards.
+pub struct Changed {
+    pub code: u32,
+    pub register: Register,
+}
+
+pub struct Asked {
+    pub code: u32,
+    pub standing: u32,
+    pub finding: u32,
+    pub place: usize,
+    pub mark: u32,
+}
+
+// What is kept of a judged blob beside its set of rows.
+struct Finding {
+    pub state: u32,
+    pub code: u32,
+    pub place: usize,
+}
+
+fn blank_register(defs: u32, refs: u32, rows: usize) -> Register
+    ensures { λ r. ⌜ r ≡ blank defs refs rows ⌝ }
+{
+    Register {
+        defs,
+        refs,
+        rows,
+        states: [0u32; SIZE],
+        codes: [0u32; SIZE],
+        places: [0usize; SIZE],
+        marks: [0u32; SIZE],
+        names: [0u32; SIZE * WORDS],
+    }
+}
+
+fn refused_opening(code: u32) -> Changed
+    ensures { λ r. ⌜ r ≡ Rattle.register.specs.Calls.changed code (blank 0 0 0) ⌝ }
+{
+    let register = blank_register(0, 0, 0);
+    Changed { code, register }
+}
+
+// Opens a register of so many rows; a refused opening hands back one of 0 rows.
+pub fn open(defs: u32, refs: u32, rows: usize) -> Changed
+    ensures { λ r. ⌜ r ≡ openOf defs refs rows ⌝ }
+{
+    if 0xFFFFFF < defs {
+        return refused_opening(13);
+    }
+    if 0xFFFFFF < refs {
+        return refused_opening(13);
+    }
+    if rows == 0 {
+        return refused_opening(19);
+    }
+    if SIZE < rows {
+        return refused_opening(19);
+    }
+    let register = blank_register(defs, refs, rows);
+    Changed { code: 0, register }
+}
+
+// 19, 16 or 0: the refusals that come first on any call but opening.
+fn admit(rows: usize, row: usize) -> u32
+    ensures { λ r. ⌜ r ≡ gate rows row ⌝ }
+{
+    if SIZE < rows {
+        return 19;
+    }
+    if row == 0 {
+        return 16;
+    }
+    if rows < row {
+        return 16;
+    }
+    0
+}
+
+// The table of what each of the n rows reaches.
+fn closed(names: [u32; SIZE * WORDS], n: usize) -> [u32; SIZE * WORDS]
+    requires { ⌜ n ≤ maxSize ⌝ }
+    ensures { λ m. ⌜ ((r s : ℕ) → r < n → s < 32 * words → at words m r s ≡ thru (at words names) n r s) ⌝ }
+{
+    let mut m = names;
+    reach::close(&mut m, n, WORDS);
+    m
+}
+
+fn standing_at(g: Register, i: usize) -> u32
+    requires { ⌜ (g .rows ≤ maxSize) × (i < g .rows) ⌝ }
+    ensures { λ r. ⌜ r ≡ standingOf g i ⌝ }
+{
+    let states = g.states;
+    let state = states[i];
+    if state == 0 {
+        return 0;
+    }
+    if state == 1 {
+        return 1;
+    }
+    let n = g.rows;
+    let names = g.names;
+    let m = closed(names, n);
+    if reach::get(&m, WORDS, i, i) {
+        return 2;
+    }
+    if reach::leans(&m, WORDS, &states, n, i) {
+        return 3;
+    }
+    4
+}
+
+// The marks after row i is filed.
+fn marks_after(g: Register, i: usize) -> [u32; SIZE]
+    requires { ⌜ (g .rows ≤ maxSize) × (i < g .rows) ⌝ }
+    ensures { λ r. ⌜ r ≡ marksAfter g i ⌝ }
+{
+    let n = g.rows;
+    let names = g.names;
+    let m = closed(names, n);
+    let mut marks = g.marks;
+    reach::unmark(&mut marks, &m, WORDS, n, i);
+    marks
+}
+
+// Judges a blob for row i, whose set of rows is written to `names`.
+fn judge_row(names: &mut [u32], i: usize, counts: Counts, blob: &[u8]) -> Finding
+    requires { ⌜ i * words + words ≤ length (now names) ⌝ }
+    ensures { λ r. ⌜ (r ≡ findingOf (judge 0 counts (now (blob .entry)))) × (now (names .exit) ≡ namedBy words (judge 0 counts (now (blob .entry))) i (now (names .entry))) ⌝ }
+{
+    reach::empty(names, WORDS, i);
+    let mut table = [0u32; TABLE];
+    let answer = reader::read(0, counts, blob, &mut table);
+    let code = answer.code;
+    let place = answer.place;
+    if code != 0 {
+        return Finding {
+            state: 1,
+            code,
+            place,
+        };
+    }
+    named::collect(names, WORDS, i, &table, place);
+    Finding {
+        state: 2,
+        code: 0,
+        place: 0,
+    }
+}
+
+fn file_at(g: Register, i: usize, blob: &[u8]) -> Register
+    requires { ⌜ (g .rows ≤ maxSize) × (i < g .rows) ⌝ }
+    ensures { λ r. ⌜ r ≡ filed g i (judged (g .defs) (g .refs) (g .rows) (now (blob .entry))) ⌝ }
+{
+    let marks = marks_after(g, i);
+    let counts = Counts {
+        defs: g.defs,
+        refs: g.refs,
+        specs: g.rows as u32,
+    };
+    let mut names = g.names;
+    let finding = judge_row(&mut names, i, counts, blob);
+    let mut next = g;
+    next.states[i] = finding.state;
+    next.codes[i] = finding.code;
+    next.places[i] = finding.place;
+    next.marks = marks;
+    next.names = names;
+    next
+}
+
+// Files a blob, good or bad, for a row.
+pub fn file(g: Register, row: usize, blob: &[u8]) -> Changed
+    ensures { λ r. ⌜ r ≡ fileOf g row (now (blob .entry)) ⌝ }
+{
+    let n = g.rows;
+    let no = admit(n, row);
+    if no != 0 {
+        return Changed {
+            code: no,
+            register: g,
+        };
+    }
+    let register = file_at(g, row - 1, blob);
+    Changed { code: 0, register }
+}
+
+fn acknowledge_at(g: Register, i: usize) -> Changed
+    requires { ⌜ (g .rows ≤ maxSize) × (i < g .rows) ⌝ }
+    ensures { λ r. ⌜ r ≡ ackAt g i ⌝ }
+{
+    let standing = standing_at(g, i);
+    if standing == 0 {
+        return Changed {
+            code: 17,
+            register: g,
+        };
+    }
+    if standing == 4 {
+        return Changed {
+            code: 17,
+            register: g,
+        };
+    }
+    let mark = g.marks[i];
+    if mark == 0 {
+        let mut next = g;
+        next.marks[i] = 1;
+        return Changed {
+            code: 0,
+            register: next,
+        };
+    }
+    Changed {
+        code: 18,
+        register: g,
+    }
+}
+
+// Marks a row that is BAD, LOOP or LEANS.
+pub fn acknowledge(g: Register, row: usize) -> Changed
+    ensures { λ r. ⌜ r ≡ ackOf g row ⌝ }
+{
+    let n = g.rows;
+    let no = admit(n, row);
+    if no != 0 {
+        return Changed {
+            code: no,
+            register: g,
+        };
+    }
+    acknowledge_at(g, row - 1)
+}
+
+fn ask_at(g: Register, i: usize) -> Asked
+    requires { ⌜ (g .rows ≤ maxSize) × (i < g .rows) ⌝ }
+    ensures { λ r. ⌜ r ≡ askAt g i ⌝ }
+{
+    let standing = standing_at(g, i);
+    let mark = g.marks[i];
+    let state = g.states[i];
+    if state == 1 {
+        let finding = g.codes[i];
+        let place = g.places[i];
+        return Asked {
+            code: 0,
+            standing,
+            finding,
+            place,
+            mark,
+        };
+    }
+    Asked {
+        code: 0,
+        standing,
+        finding: 0,
+        place: 0,
+        mark,
+    }
+}
+
+// A row's standing, finding, place and mark.
+pub fn ask(g: Register, row: usize) -> Asked
+    ensures { λ r. ⌜ r ≡ askOf g row ⌝ }
+{
+    let n = g.rows;
+    let no = admit(n, row);
+    if no != 0 {
+        return Asked {
+            code: no,
+            standing: 0,
+            finding: 0,
+            place: 0,
+            mark: 0,
+        };
+    }
+    ask_at(g, row - 1)
+}
