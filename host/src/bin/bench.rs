@@ -1,0 +1,250 @@
+// How fast the archive reads, side by side with the reference, in one run: prints a table and writes it as Markdown.
+
+use host::ffi;
+use host::gen::{chain, grammar_made, locals, Case, Rng};
+use host::reference::{self, Answer, Counts, MOST_NODES};
+use host::sample;
+use std::fmt::Write;
+use std::hint::black_box;
+use std::process::ExitCode;
+use std::time::Instant;
+
+const PASSES: usize = 300;
+/// Each pass goes over a set until about so many bytes were read: short, so that some passes are undisturbed.
+const BYTES: usize = 1 << 15;
+
+type Judge = fn(u32, Counts, &[u8]) -> Answer;
+type Read = fn(u32, Counts, &[u8], &mut [u32]) -> Answer;
+
+struct Set {
+    name: String,
+    cases: Vec<Case>,
+}
+
+/// Nanoseconds for each blob: the archive's and the reference's best pass.
+struct Pair {
+    archive: f64,
+    reference: f64,
+}
+
+fn main() -> ExitCode {
+    let Some(path) = std::env::args().nth(1) else {
+        eprintln!("usage: bench <file.md>");
+        return ExitCode::from(2);
+    };
+    let report = report();
+    print!("{report}");
+    match std::fs::write(&path, &report) {
+        Ok(()) => ExitCode::SUCCESS,
+        Err(error) => {
+            eprintln!("{path}: {error}");
+            ExitCode::FAILURE
+        }
+    }
+}
+
+fn report() -> String {
+    let mut text = String::from(
+        "| blobs | number | bytes each | judge, archive ns | reference ns | ratio | read, archive ns | reference ns | ratio |\n\
+         |---|--:|--:|--:|--:|--:|--:|--:|--:|\n",
+    );
+    let mut table = vec![0; MOST_NODES * 6];
+    for set in sets() {
+        let judged = judged(&set.cases);
+        let read = read(&set.cases, &mut table);
+        let bytes: usize = set.cases.iter().map(|case| case.blob.len()).sum();
+        let each = bytes as f64 / set.cases.len() as f64;
+        writeln!(
+            text,
+            "| {} | {} | {each:.1} | {:.1} | {:.1} | {:.2} | {:.1} | {:.1} | {:.2} |",
+            set.name,
+            set.cases.len(),
+            judged.archive,
+            judged.reference,
+            judged.archive / judged.reference,
+            read.archive,
+            read.reference,
+            read.archive / read.reference,
+        )
+        .expect("a string takes all");
+    }
+    #[cfg(feature = "writer")]
+    text.push_str(&writing::report());
+    writeln!(
+        text,
+        "\nNanoseconds for one call, the best of {PASSES} passes; the passes of archive and reference alternate in one process. \
+         Ratio is archive over reference. Both judge first and fill only then. \
+         The same {MOST_NODES} records are lent to every call and are not cleared between calls."
+    )
+    .expect("a string takes all");
+    text
+}
+
+fn sets() -> Vec<Set> {
+    let mut sets = Vec::new();
+    let lines = sample::load().unwrap_or_default();
+    let known = lines.iter().filter(|line| line.case.kind < 5);
+    let (real, other): (Vec<_>, Vec<_>) = known.partition(|line| line.module < 8000);
+    let names = [
+        "TypeSpec",
+        "FieldSig",
+        "LocalVarSig",
+        "PropertySig",
+        "MethodDefSig",
+    ];
+    let mut add = |name: String, cases: Vec<Case>| {
+        if !cases.is_empty() {
+            sets.push(Set { name, cases });
+        }
+    };
+    let cases = |lines: &[&sample::Line]| lines.iter().map(|line| line.case.clone()).collect();
+    for (kind, name) in (0..).zip(names) {
+        let mut cases: Vec<Case> = cases(&real);
+        cases.retain(|case| case.kind == kind);
+        add(format!("real, {name}"), cases);
+    }
+    add("real, all kinds".into(), cases(&real));
+    add("sample's made and changed".into(), cases(&other));
+    for length in [4, 16, 64, 256, 1024, 4096] {
+        add(format!("made, {length} bytes"), of_length(length));
+    }
+    for depth in [1, 2, 4, 8, 16, 32] {
+        let blob = chain(depth - 1, &[&[0x1D], &[0x0F], &[0x20, 0x06]]);
+        add(format!("chain, depth {depth}"), vec![case(0, blob)]);
+    }
+    for depth in [3, 9, 31] {
+        let blob = chain((depth - 1) / 2, &[&[0x1B, 0x00, 0x00]]);
+        add(format!("FNPTR, depth {depth}"), vec![case(0, blob)]);
+    }
+    sets
+}
+
+fn case(kind: u32, blob: Vec<u8>) -> Case {
+    let counts = Counts {
+        type_defs: 4000,
+        type_refs: 4000,
+        type_specs: 4000,
+    };
+    Case { kind, counts, blob }
+}
+
+/// Accepted blobs of about this length: grammar-made where there are such, else locals.
+fn of_length(length: usize) -> Vec<Case> {
+    let mut rng = Rng::new(length as u64);
+    let mut cases = Vec::new();
+    for _ in 0..400_000 {
+        let case = grammar_made(&mut rng, 0);
+        let near = case.blob.len() * 8 >= length * 7 && case.blob.len() * 8 <= length * 9;
+        if near && reference::judge(case.kind, case.counts, &case.blob).0 == 0 {
+            cases.push(case);
+        }
+        if cases.len() == 200 {
+            return cases;
+        }
+    }
+    let local = [0x15, 0x12, 0x80, 0x81, 0x01, 0x11, 0x80, 0x84];
+    cases.push(case(2, locals((length - 3) / local.len(), &local)));
+    cases
+}
+
+fn rounds(cases: &[Case]) -> usize {
+    let bytes: usize = cases.iter().map(|case| case.blob.len() + 8).sum();
+    1 + BYTES / bytes
+}
+
+/// The best of several passes of two works, one pass of each in turn.
+fn alternate(cases: &[Case], mut archive: impl FnMut(), mut reference: impl FnMut()) -> Pair {
+    let calls = (rounds(cases) * cases.len()) as f64;
+    let mut best = [f64::INFINITY; 2];
+    for _ in 0..PASSES {
+        for (best, work) in best
+            .iter_mut()
+            .zip([&mut archive as &mut dyn FnMut(), &mut reference])
+        {
+            let start = Instant::now();
+            work();
+            *best = best.min(start.elapsed().as_nanos() as f64 / calls);
+        }
+    }
+    Pair {
+        archive: best[0],
+        reference: best[1],
+    }
+}
+
+fn judged(cases: &[Case]) -> Pair {
+    let pass = |judge: Judge| {
+        for _ in 0..rounds(cases) {
+            for case in cases {
+                black_box(judge(case.kind, case.counts, black_box(&case.blob)));
+            }
+        }
+    };
+    alternate(cases, || pass(ffi::judge), || pass(reference::judge))
+}
+
+fn read(cases: &[Case], table: &mut [u32]) -> Pair {
+    let table = std::cell::RefCell::new(table);
+    let pass = |read: Read| {
+        let mut table = table.borrow_mut();
+        for _ in 0..rounds(cases) {
+            for case in cases {
+                let blob = black_box(&case.blob);
+                black_box(read(case.kind, case.counts, blob, &mut table));
+            }
+        }
+    };
+    alternate(cases, || pass(ffi::read), || pass(reference::read))
+}
+
+#[cfg(feature = "writer")]
+mod writing {
+    use super::*;
+
+    type Writer = fn(u32, Counts, &[u32], &mut [u8]) -> Answer;
+
+    pub fn report() -> String {
+        let mut text = String::from(
+            "\n| tables of | number | write, archive ns | reference ns | ratio |\n|---|--:|--:|--:|--:|\n",
+        );
+        for mut set in sets() {
+            set.cases
+                .retain(|case| reference::judge(case.kind, case.counts, &case.blob).0 == 0);
+            let written = written(&set.cases);
+            writeln!(
+                text,
+                "| {} | {} | {:.1} | {:.1} | {:.2} |",
+                set.name,
+                set.cases.len(),
+                written.archive,
+                written.reference,
+                written.archive / written.reference,
+            )
+            .expect("a string takes all");
+        }
+        text
+    }
+
+    fn written(cases: &[Case]) -> Pair {
+        let tables: Vec<Vec<u32>> = cases.iter().map(table).collect();
+        let out = std::cell::RefCell::new(vec![0; 4096]);
+        let pass = |write: Writer| {
+            let mut out = out.borrow_mut();
+            for _ in 0..rounds(cases) {
+                for (case, table) in cases.iter().zip(&tables) {
+                    let table = black_box(table);
+                    black_box(write(case.kind, case.counts, table, &mut out));
+                }
+            }
+        };
+        alternate(cases, || pass(ffi::write), || pass(reference::write))
+    }
+
+    /// The table of a blob that is accepted.
+    fn table(case: &Case) -> Vec<u32> {
+        let mut table = vec![0; MOST_NODES * 6];
+        let (_, nodes) = reference::read(case.kind, case.counts, &case.blob, &mut table);
+        table.truncate(nodes as usize * 6);
+        table
+    }
+}

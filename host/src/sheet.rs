@@ -1,0 +1,109 @@
+// The deposit sheet: read, filed and acknowledged in a night book, and printed.
+
+mod book;
+
+pub use book::{Asked, Book, BAD, CLEAN, EMPTY, LEANS, LOOP};
+
+use crate::reference::{decode, MOST_ROWS};
+use std::fmt::Write;
+
+const MOST_SHEET: usize = 65_536;
+const NAMES: [&str; 5] = ["EMPTY", "BAD", "LOOP", "LEANS", "CLEAN"];
+
+/// The printed text of a sheet.
+pub fn run_sheet(bytes: &[u8]) -> Vec<u8> {
+    let text = match parse(bytes) {
+        Ok(sheet) => print(&sheet),
+        Err(at) => format!("sheet refused at {at}\n"),
+    };
+    text.into_bytes()
+}
+
+struct Sheet<'s> {
+    type_defs: u32,
+    type_refs: u32,
+    blobs: Vec<&'s [u8]>,
+    presses: Vec<u32>,
+}
+
+struct Pen<'s> {
+    bytes: &'s [u8],
+    pos: usize,
+}
+
+impl<'s> Pen<'s> {
+    fn number(&mut self) -> Result<u32, usize> {
+        let (value, next) = decode(self.bytes, self.pos).map_err(|_| self.pos)?;
+        self.pos = next;
+        Ok(value)
+    }
+
+    fn ruled(&mut self, least: u32, most: u32) -> Result<u32, usize> {
+        let at = self.pos;
+        match self.number()? {
+            value if value >= least && value <= most => Ok(value),
+            _ => Err(at),
+        }
+    }
+
+    fn blob(&mut self) -> Result<&'s [u8], usize> {
+        let at = self.pos;
+        let length = self.number()? as usize;
+        let end = self.pos + length;
+        let blob = self.bytes.get(self.pos..end).ok_or(at)?;
+        self.pos = end;
+        Ok(blob)
+    }
+}
+
+/// The sheet, or the place of its first fault.
+fn parse(bytes: &[u8]) -> Result<Sheet<'_>, usize> {
+    if bytes.len() > MOST_SHEET {
+        return Err(MOST_SHEET);
+    }
+    let mut pen = Pen { bytes, pos: 0 };
+    pen.ruled(2, 2)?;
+    let type_defs = pen.ruled(0, MOST_ROWS)?;
+    let type_refs = pen.ruled(0, MOST_ROWS)?;
+    let mut blobs = Vec::new();
+    for _ in 0..pen.ruled(1, 64)? {
+        blobs.push(pen.blob()?);
+    }
+    let mut presses = Vec::new();
+    for _ in 0..pen.number()? {
+        presses.push(pen.number()?);
+    }
+    if pen.pos < bytes.len() {
+        return Err(pen.pos);
+    }
+    Ok(Sheet {
+        type_defs,
+        type_refs,
+        blobs,
+        presses,
+    })
+}
+
+fn print(sheet: &Sheet) -> String {
+    let size = sheet.blobs.len() as u32;
+    let (mut book, _) = Book::open(sheet.type_defs, sheet.type_refs, size);
+    for (row, blob) in (1..).zip(&sheet.blobs) {
+        book.file(row, blob);
+    }
+    let answers: Vec<u32> = sheet
+        .presses
+        .iter()
+        .map(|&row| book.acknowledge(row))
+        .collect();
+    let mut text = String::from("row standing code place mark\n");
+    for row in 1..=size {
+        let asked = book.ask(row);
+        let standing = NAMES[asked.standing as usize];
+        let (finding, place, mark) = (asked.finding, asked.place, asked.mark);
+        writeln!(text, "{row} {standing} {finding} {place} {mark}").expect("a string takes all");
+    }
+    for (row, answer) in sheet.presses.iter().zip(answers) {
+        writeln!(text, "ack {row} {answer}").expect("a string takes all");
+    }
+    text
+}
