@@ -23,7 +23,7 @@ host-test:
 bench:
 	@tools/measure
 	@rt staticlib host >target/staticlib.log 2>&1 || { cat target/staticlib.log; exit 1; }
-	@cd host && cargo run --quiet --release --offline --features writer --bin bench
+	@cd host && cargo run --quiet --release --offline --features writer --bin bench -- ../target/bench.md
 
 clean:
 	rm -rf target host/target

@@ -11,7 +11,7 @@ pub fn counts(defs: u32, refs: u32, specs: u32) -> Counts {
 }
 
 // Document 01's row counts on the bench.
-pub fn bench_counts() -> Counts {
+pub fn sample_counts() -> Counts {
     counts(0, 18, 1)
 }
 
