@@ -1,10 +1,21 @@
-// The node table's record and the bound on row counts. All else of this crate is in specs/ (the grammar, as definitions) and proofs/
+// Document 01's limits, the node table's record and the test of row counts. All else of this crate is in specs/ (the grammar, as definitions) and proofs/
 // (the theorems on it).
 ghost use mathlib.Core.Path.{_≡_};
 ghost use Rattle.grammar.specs.Judge.{known};
 use number::token::Counts;
 
-const MAX_ROWS: u32 = 0xFFFFFF;
+// Document 01's limits, as specs/Limits.antt and Kinds.antt have them.
+pub const MAX_KIND: u32 = 4;
+
+pub const MAX_ROWS: u32 = 0xFFFFFF;
+
+pub const MAX_BYTES: usize = 4096;
+
+pub const MAX_NODES: usize = 1024;
+
+pub const MAX_DEPTH: usize = 32;
+
+pub const MAX_RANK: u32 = 32;
 
 // One record of the node table.
 pub struct Node {

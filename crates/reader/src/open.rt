@@ -7,6 +7,7 @@ ghost use Rattle.grammar.specs.Judge.{allowed};
 ghost use Rattle.reader.specs.Open.{codeAt, instanceOf, headOf, openOf, callOf, genericOf, leadForm, leadOf};
 use element::Form;
 use element::Place;
+use grammar::MAX_NODES;
 use number::checked::Checked;
 use number::token::Counts;
 
@@ -16,8 +17,6 @@ const MAX_NUMBER: u32 = 0x1FFFFFFF;
 const TYPE_TAGS: u32 = 2;
 
 const MOD_TAGS: u32 = 3;
-
-const MAX_NODES: usize = 1024;
 
 // A node's own numbers: its record's, but for the offset and the index after it.
 pub struct Head {

@@ -13,17 +13,14 @@ use crate::open::Head;
 use crate::open::Lead;
 use crate::open::Open;
 use element::Place;
+use grammar::MAX_BYTES;
+use grammar::MAX_DEPTH;
+use grammar::MAX_KIND;
+use grammar::MAX_NODES;
+use grammar::MAX_RANK;
 use grammar::Node;
 use number::checked::Checked;
 use number::token::Counts;
-
-const MAX_BYTES: usize = 4096;
-
-const MAX_NODES: usize = 1024;
-
-const MAX_DEPTH: usize = 32;
-
-const MAX_RANK: u32 = 32;
 
 const SIZE: u32 = 0x104;
 
@@ -360,7 +357,7 @@ fn root_at(out: &mut [u32], kind: u32, counts: Counts, src: &[u8]) -> Walk
 pub fn blob_at(out: &mut [u32], kind: u32, counts: Counts, src: &[u8]) -> Answer
     ensures { λ r. ⌜ Judged (judge kind counts (now (src .entry))) r (now (out .entry)) (now (out .exit)) ⌝ }
 {
-    if 4 < kind {
+    if MAX_KIND < kind {
         return Answer { code: 12, place: 0 };
     }
     if grammar::known_counts(counts) {

@@ -9,6 +9,8 @@ ghost use Rattle.register.specs.Size.{maxSize, words};
 ghost use Rattle.register.specs.Outcome.{judged};
 ghost use Rattle.register.specs.Named.{namedBy};
 ghost use Rattle.register.specs.Calls.{blank, openOf, gate, findingOf, filed, fileOf, marksAfter, ackAt, ackOf, askAt, askOf, standingOf};
+use grammar::MAX_NODES;
+use grammar::MAX_ROWS;
 use number::token::Counts;
 
 mod named;
@@ -19,7 +21,7 @@ const SIZE: usize = 64;
 const WORDS: usize = 2;
 
 // The numbers of a node table that has a record for every node.
-const TABLE: usize = 6 * 1024;
+const TABLE: usize = 6 * MAX_NODES;
 
 pub struct Register {
     // the row counts of TypeDef and TypeRef
@@ -85,10 +87,10 @@ fn refused_opening(code: u32) -> Changed
 pub fn open(defs: u32, refs: u32, rows: usize) -> Changed
     ensures { λ r. ⌜ r ≡ openOf defs refs rows ⌝ }
 {
-    if 0xFFFFFF < defs {
+    if MAX_ROWS < defs {
         return refused_opening(13);
     }
-    if 0xFFFFFF < refs {
+    if MAX_ROWS < refs {
         return refused_opening(13);
     }
     if rows == 0 {

@@ -9,14 +9,12 @@ ghost use Rattle.grammar.specs.Emit.{emitted};
 ghost use Rattle.grammar.specs.Writer.{same, isTable, confirmed, writing};
 ghost use Rattle.writer.specs.Written.{answerOf, outputOf};
 use crate::emit::Emit;
+use grammar::MAX_DEPTH;
+use grammar::MAX_KIND;
 use number::token::Counts;
 use reader::Answer;
 
 mod emit;
-
-const MAX_KIND: u32 = 4;
-
-const MAX_DEPTH: usize = 32;
 
 fn same_numbers(a: &[u32], b: &[u32]) -> bool
     ensures { λ r. ⌜ r ≡ same (now (a .entry)) (now (b .entry)) ⌝ }
