@@ -1,8 +1,8 @@
-// The deposit sheet: read, filed and acknowledged in a night book, and printed.
+// The deposit sheet: read, filed and acknowledged in the model, and printed.
 
-mod book;
+mod model;
 
-pub use book::{Asked, Book, BAD, CLEAN, EMPTY, LEANS, LOOP};
+pub use model::{Asked, Model, BAD, CLEAN, EMPTY, LEANS, LOOP};
 
 use crate::reference::{decode, MOST_ROWS};
 use std::fmt::Write;
@@ -26,12 +26,12 @@ struct Sheet<'s> {
     presses: Vec<u32>,
 }
 
-struct Pen<'s> {
+struct Cursor<'s> {
     bytes: &'s [u8],
     pos: usize,
 }
 
-impl<'s> Pen<'s> {
+impl<'s> Cursor<'s> {
     fn number(&mut self) -> Result<u32, usize> {
         let (value, next) = decode(self.bytes, self.pos).map_err(|_| self.pos)?;
         self.pos = next;
@@ -61,20 +61,20 @@ fn parse(bytes: &[u8]) -> Result<Sheet<'_>, usize> {
     if bytes.len() > MOST_SHEET {
         return Err(MOST_SHEET);
     }
-    let mut pen = Pen { bytes, pos: 0 };
-    pen.ruled(2, 2)?;
-    let type_defs = pen.ruled(0, MOST_ROWS)?;
-    let type_refs = pen.ruled(0, MOST_ROWS)?;
+    let mut cursor = Cursor { bytes, pos: 0 };
+    cursor.ruled(2, 2)?;
+    let type_defs = cursor.ruled(0, MOST_ROWS)?;
+    let type_refs = cursor.ruled(0, MOST_ROWS)?;
     let mut blobs = Vec::new();
-    for _ in 0..pen.ruled(1, 64)? {
-        blobs.push(pen.blob()?);
+    for _ in 0..cursor.ruled(1, 64)? {
+        blobs.push(cursor.blob()?);
     }
     let mut presses = Vec::new();
-    for _ in 0..pen.number()? {
-        presses.push(pen.number()?);
+    for _ in 0..cursor.number()? {
+        presses.push(cursor.number()?);
     }
-    if pen.pos < bytes.len() {
-        return Err(pen.pos);
+    if cursor.pos < bytes.len() {
+        return Err(cursor.pos);
     }
     Ok(Sheet {
         type_defs,
@@ -86,18 +86,18 @@ fn parse(bytes: &[u8]) -> Result<Sheet<'_>, usize> {
 
 fn print(sheet: &Sheet) -> String {
     let size = sheet.blobs.len() as u32;
-    let (mut book, _) = Book::open(sheet.type_defs, sheet.type_refs, size);
+    let (mut model, _) = Model::open(sheet.type_defs, sheet.type_refs, size);
     for (row, blob) in (1..).zip(&sheet.blobs) {
-        book.file(row, blob);
+        model.file(row, blob);
     }
     let answers: Vec<u32> = sheet
         .presses
         .iter()
-        .map(|&row| book.acknowledge(row))
+        .map(|&row| model.acknowledge(row))
         .collect();
     let mut text = String::from("row standing code place mark\n");
     for row in 1..=size {
-        let asked = book.ask(row);
+        let asked = model.ask(row);
         let standing = NAMES[asked.standing as usize];
         let (finding, place, mark) = (asked.finding, asked.place, asked.mark);
         writeln!(text, "{row} {standing} {finding} {place} {mark}").expect("a string takes all");

@@ -1,6 +1,6 @@
-// The sheet example, the night book's bench row, and the sheet's refusals.
+// The sheet example, the register's worked row, and the sheet's refusals.
 
-use host::sheet::{run_sheet, Book, BAD, CLEAN, EMPTY, LEANS, LOOP};
+use host::sheet::{run_sheet, Model, BAD, CLEAN, EMPTY, LEANS, LOOP};
 
 const SHEET: [u8; 17] = [
     0x02, 0x00, 0x00, 0x03, 0x04, 0x0F, 0x20, 0x0A, 0x08, 0x01, 0x10, 0x03, 0x20, 0x0E, 0x08, 0x01,
@@ -15,8 +15,8 @@ fn refused(sheet: &[u8], at: usize) {
     assert_eq!(text(sheet), format!("sheet refused at {at}\n"));
 }
 
-fn standing_and_mark(book: &Book, row: u32) -> (u32, u32) {
-    let asked = book.ask(row);
+fn standing_and_mark(model: &Model, row: u32) -> (u32, u32) {
+    let asked = model.ask(row);
     assert_eq!(asked.code, 0);
     (asked.standing, asked.mark)
 }
@@ -30,44 +30,44 @@ fn example() {
 
 #[test]
 fn bench_row() {
-    let (mut book, code) = Book::open(0, 0, 3);
+    let (mut model, code) = Model::open(0, 0, 3);
     assert_eq!(code, 0);
-    assert_eq!(standing_and_mark(&book, 1), (EMPTY, 0));
-    assert_eq!(book.file(1, &[0x0F, 0x20, 0x0A, 0x08]), 0);
-    assert_eq!(book.file(2, &[0x10]), 0);
-    assert_eq!(book.file(3, &[0x20, 0x0E, 0x08]), 0);
-    assert_eq!(book.acknowledge(1), 0);
-    assert_eq!(book.acknowledge(1), 18);
-    assert_eq!(book.acknowledge(3), 0);
-    assert_eq!(standing_and_mark(&book, 1), (LEANS, 1));
-    assert_eq!(standing_and_mark(&book, 2), (BAD, 0));
-    assert_eq!(standing_and_mark(&book, 3), (LOOP, 1));
-    assert_eq!(book.file(2, &[0x1D, 0x08]), 0);
-    assert_eq!(standing_and_mark(&book, 1), (CLEAN, 0));
-    assert_eq!(standing_and_mark(&book, 2), (CLEAN, 0));
-    assert_eq!(standing_and_mark(&book, 3), (LOOP, 1));
-    assert_eq!(book.acknowledge(1), 17);
-    assert_eq!(book.file(4, &[]), 16);
-    assert_eq!(book.ask(0).code, 16);
+    assert_eq!(standing_and_mark(&model, 1), (EMPTY, 0));
+    assert_eq!(model.file(1, &[0x0F, 0x20, 0x0A, 0x08]), 0);
+    assert_eq!(model.file(2, &[0x10]), 0);
+    assert_eq!(model.file(3, &[0x20, 0x0E, 0x08]), 0);
+    assert_eq!(model.acknowledge(1), 0);
+    assert_eq!(model.acknowledge(1), 18);
+    assert_eq!(model.acknowledge(3), 0);
+    assert_eq!(standing_and_mark(&model, 1), (LEANS, 1));
+    assert_eq!(standing_and_mark(&model, 2), (BAD, 0));
+    assert_eq!(standing_and_mark(&model, 3), (LOOP, 1));
+    assert_eq!(model.file(2, &[0x1D, 0x08]), 0);
+    assert_eq!(standing_and_mark(&model, 1), (CLEAN, 0));
+    assert_eq!(standing_and_mark(&model, 2), (CLEAN, 0));
+    assert_eq!(standing_and_mark(&model, 3), (LOOP, 1));
+    assert_eq!(model.acknowledge(1), 17);
+    assert_eq!(model.file(4, &[]), 16);
+    assert_eq!(model.ask(0).code, 16);
 }
 
 #[test]
 fn openings() {
-    assert_eq!(Book::open(0x100_0000, 0, 0).1, 13);
-    assert_eq!(Book::open(0, 0x100_0000, 3).1, 13);
-    assert_eq!(Book::open(0, 0, 0).1, 19);
-    assert_eq!(Book::open(0, 0, 65).1, 19);
-    assert_eq!(Book::open(0xFF_FFFF, 0xFF_FFFF, 64).1, 0);
-    assert_eq!(Book::open(0, 0, 65).0.acknowledge(1), 16);
+    assert_eq!(Model::open(0x100_0000, 0, 0).1, 13);
+    assert_eq!(Model::open(0, 0x100_0000, 3).1, 13);
+    assert_eq!(Model::open(0, 0, 0).1, 19);
+    assert_eq!(Model::open(0, 0, 65).1, 19);
+    assert_eq!(Model::open(0xFF_FFFF, 0xFF_FFFF, 64).1, 0);
+    assert_eq!(Model::open(0, 0, 65).0.acknowledge(1), 16);
 }
 
 #[test]
 fn a_row_that_leads_into_a_cycle_leans() {
-    let (mut book, _) = Book::open(0, 0, 4);
+    let (mut model, _) = Model::open(0, 0, 4);
     for (row, named) in [(1, 2), (2, 3), (3, 2), (4, 4)] {
-        book.file(row, &[0x1F, named * 4 + 2, 0x08]);
+        model.file(row, &[0x1F, named * 4 + 2, 0x08]);
     }
-    let standings: Vec<u32> = (1..=4).map(|row| book.ask(row).standing).collect();
+    let standings: Vec<u32> = (1..=4).map(|row| model.ask(row).standing).collect();
     assert_eq!(standings, [LEANS, LOOP, LOOP, LOOP]);
 }
 

@@ -1,7 +1,7 @@
-// The night book over long made histories, against a second account that knows the rows' names without reading blobs.
+// The model over long made histories, against a second account that knows the rows' names without reading blobs.
 
 use host::gen::Rng;
-use host::sheet::{Asked, Book, BAD, CLEAN, EMPTY, LEANS, LOOP};
+use host::sheet::{Asked, Model, BAD, CLEAN, EMPTY, LEANS, LOOP};
 
 /// What was filed last in a row: nothing, a bad blob, or one that names these rows.
 #[derive(Clone)]
@@ -55,7 +55,7 @@ fn histories() {
     let mut seen = [0; 5];
     for _ in 0..300 {
         let size = 1 + rng.below(7);
-        let (mut book, code) = Book::open(0, 0, size as u32);
+        let (mut model, code) = Model::open(0, 0, size as u32);
         assert_eq!(code, 0);
         let mut rows = vec![Filed::Nothing; size];
         let mut marks = vec![0; size];
@@ -71,7 +71,7 @@ fn histories() {
                     _ => 0,
                 };
                 marks[row] |= u32::from(answer == 0);
-                assert_eq!(book.acknowledge(number), answer);
+                assert_eq!(model.acknowledge(number), answer);
             } else {
                 for other in 0..size {
                     if other == row || reach[other][row] {
@@ -82,16 +82,16 @@ fn histories() {
                 let bad = rng.below(6) == 0;
                 let bytes = if bad { vec![0x08, 0x08] } else { blob(&names) };
                 rows[row] = if bad { Filed::Bad } else { Filed::Names(names) };
-                assert_eq!(book.file(number, &bytes), 0);
+                assert_eq!(model.file(number, &bytes), 0);
             }
-            assert_eq!(book.acknowledge(0), 16);
-            assert_eq!(book.file(size as u32 + 1, &[0x08]), 16);
+            assert_eq!(model.acknowledge(0), 16);
+            assert_eq!(model.file(size as u32 + 1, &[0x08]), 16);
             let reach = closure(&rows);
             for (row, &mark) in marks.iter().enumerate() {
                 let standing = standing(&rows, &reach, row);
                 seen[standing as usize] += 1;
                 let (finding, place) = if standing == BAD { (9, 1) } else { (0, 0) };
-                let asked = book.ask(row as u32 + 1);
+                let asked = model.ask(row as u32 + 1);
                 let expected = Asked {
                     code: 0,
                     standing,

@@ -1,4 +1,4 @@
-// The night book: for each row the last blob filed and a mark; everything else is found out afresh when asked.
+// The model (document 01's night book): for each row the last blob filed and a mark; everything else is found out afresh when asked.
 
 use crate::reference::{read, Counts, MOST_NODES, MOST_ROWS};
 
@@ -20,7 +20,7 @@ pub struct Asked {
 }
 
 #[derive(Clone, Debug)]
-pub struct Book {
+pub struct Model {
     type_defs: u32,
     type_refs: u32,
     rows: Vec<Row>,
@@ -39,21 +39,21 @@ enum Finding {
     Names(Vec<usize>),
 }
 
-impl Book {
-    /// The book and what its opening answers: 13, 19 or 0.
-    pub fn open(type_defs: u32, type_refs: u32, size: u32) -> (Book, u32) {
+impl Model {
+    /// The model and what its opening answers: 13, 19 or 0.
+    pub fn open(type_defs: u32, type_refs: u32, size: u32) -> (Model, u32) {
         let code = match (type_defs.max(type_refs), size) {
             (rows, _) if rows > MOST_ROWS => 13,
             (_, 1..=MOST_SIZE) => 0,
             _ => 19,
         };
         let rows = if code == 0 { size as usize } else { 0 };
-        let book = Book {
+        let model = Model {
             type_defs,
             type_refs,
             rows: vec![Row::default(); rows],
         };
-        (book, code)
+        (model, code)
     }
 
     pub fn file(&mut self, row: u32, blob: &[u8]) -> u32 {
