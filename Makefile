@@ -9,7 +9,7 @@ run:
 # Everything, from nothing: the layout of all files, the host tests, every proof, every must-fail edit, every program. The last line is the verdict.
 test:
 	@rt fmt --check
-	@if command -v cargo >/dev/null; then $(MAKE) --no-print-directory host-test; else echo 'host tests skipped: cargo is not here'; fi
+	@if command -v cargo >/dev/null && command -v cc >/dev/null; then $(MAKE) --no-print-directory host-test; else echo 'host tests skipped: cargo or cc is not here'; fi
 	@rt ci
 
 # The archive against the independent implementation: its own tests, then some 12 million blobs and tables.
