@@ -1,0 +1,99 @@
+// The reader's second call: a signature blob read into the flat node table and into the caller's slice of record structs.
+// The functions that touch a slice of structs are few and thin; all else is on the flat table.
+ghost use mathlib.Core.Path.{_≡_};
+ghost use Prim.Native.Nat.{_<_, _≤_, _*_, _+_, _/_};
+ghost use lib.ListN.{length, getD, replicate};
+ghost use Rattle.grammar.specs.Table.{recordAt};
+ghost use Rattle.grammar.specs.Judge.{reading};
+ghost use Rattle.reader.specs.Answer.{answerOf, tableOf};
+ghost use Rattle.records.specs.Records.{shorter, recordsOf, blank, nodesOf, copied};
+use grammar::Node;
+use number::token::Counts;
+use reader::Answer;
+
+// Record i of the flat table.
+fn node_of(table: &[u32], i: usize) -> Node
+    requires { ⌜ 6 * i + 6 ≤ length (now table) ⌝ }
+    ensures { λ r. ⌜ r ≡ recordAt (now (table .entry)) i ⌝ }
+{
+    let k = 6 * i;
+    Node {
+        kind: table[k],
+        a: table[k + 1],
+        b: table[k + 2],
+        children: table[k + 3],
+        at: table[k + 4],
+        after: table[k + 5],
+    }
+}
+
+// Copies the first `count` records of the flat table to the front of `records`.
+fn copy_records(table: &[u32], records: &mut [Node], count: usize)
+    requires { ⌜ (6 * count ≤ length (now table)) × (count ≤ length (now records)) ⌝ }
+    ensures { λ _. ⌜ now (records .exit) ≡ copied (now (table .entry)) count (now (records .entry)) ⌝ }
+{
+    let mut i = 0;
+    while i < count {
+        records[i] = node_of(table, i);
+        i = i + 1;
+    }
+}
+
+// Reads a blob into the flat table, of which `most` records at most are lent.
+fn read_within(kind: u32, counts: Counts, blob: &[u8], table: &mut [u32], most: usize) -> Answer
+    ensures { λ r. ⌜ (r ≡ answerOf (reading kind counts (now (blob .entry)) (shorter (length (now (table .entry)) / 6) most))) × (now (table .exit) ≡ tableOf (reading kind counts (now (blob .entry)) (shorter (length (now (table .entry)) / 6) most)) (now (table .entry))) ⌝ }
+{
+    if most < table.len() / 6 {
+        let end = 6 * most;
+        return reader::read(kind, counts, blob, &mut table[..end]);
+    }
+    reader::read(kind, counts, blob, table)
+}
+
+// How many records an answer gives: none on a refusal.
+fn nodes_of(answer: Answer) -> usize
+    ensures { λ r. ⌜ r ≡ nodesOf answer ⌝ }
+{
+    if answer.code == 0 {
+        return answer.place;
+    }
+    0
+}
+
+// Reads a blob into the flat table and into the slice of records; 11 counts the shorter of the two lent. A refusal leaves both as they were.
+pub fn read_records(
+    kind: u32,
+    counts: Counts,
+    blob: &[u8],
+    table: &mut [u32],
+    records: &mut [Node],
+) -> Answer
+    ensures { λ r. ⌜ (r ≡ answerOf (reading kind counts (now (blob .entry)) (shorter (length (now (table .entry)) / 6) (length (now (records .entry))))))
+        × ((now (table .exit) ≡ tableOf (reading kind counts (now (blob .entry)) (shorter (length (now (table .entry)) / 6) (length (now (records .entry))))) (now (table .entry)))
+        × (now (records .exit) ≡ recordsOf (reading kind counts (now (blob .entry)) (shorter (length (now (table .entry)) / 6) (length (now (records .entry))))) (now (records .entry)))) ⌝ }
+{
+    let most = records.len();
+    let answer = read_within(kind, counts, blob, table, most);
+    let nodes = nodes_of(answer);
+    copy_records(table, records, nodes);
+    answer
+}
+
+// Record i of a blob, by way of eight records of its own: no parameter is a slice of structs, so that any program can call it.
+pub fn record_of(kind: u32, counts: Counts, blob: &[u8], table: &mut [u32], i: usize) -> Node
+    requires { ⌜ i < 8 ⌝ }
+    ensures { λ r. ⌜ (now (table .exit) ≡ tableOf (reading kind counts (now (blob .entry)) (shorter (length (now (table .entry)) / 6) 8)) (now (table .entry)))
+        × (r ≡ getD (recordsOf (reading kind counts (now (blob .entry)) (shorter (length (now (table .entry)) / 6) 8)) (replicate 8 blank)) i blank) ⌝ }
+{
+    let zero = Node {
+        kind: 0,
+        a: 0,
+        b: 0,
+        children: 0,
+        at: 0,
+        after: 0,
+    };
+    let mut records = [zero; 8];
+    read_records(kind, counts, blob, table, &mut records);
+    records[i]
+}
