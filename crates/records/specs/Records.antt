@@ -5,7 +5,7 @@ use mathlib.Core.Bool.{cond}
 use mathlib.Core.List.{List, [], _∷_, _++_}
 use lib.ListN.{drop}
 use lib.Dec.{eqb, ltb}
-use Rattle.grammar.specs.Table.{entry, recordAt}
+use Rattle.grammar.specs.Table.{recordAt}
 use Rattle.grammar.specs.Judge.{Out, fault, done}
 use Rattle.grammar.specs.declared.Node.{Node}
 use Rattle.reader.specs.declared.Answer.{Answer}
@@ -18,10 +18,6 @@ shorter room most = cond (ltb most room) most room
 unfoldable pub recordsOf : Out → List Node → List Node
 recordsOf (fault code place) old = old
 recordsOf (done at n rs) old = rs ++ drop n old
-
--- a record of zeros
-abbrev pub blank : Node
-blank = entry 0 0 0 0 0 0
 
 -- ---- Internal: an auditor goes by the above.
 

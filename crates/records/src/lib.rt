@@ -1,12 +1,12 @@
 // The reader's second call: a signature blob read into the flat node table and into the caller's slice of record structs.
 // The functions that touch a slice of structs are few and thin; all else is on the flat table.
 ghost use mathlib.Core.Path.{_≡_};
-ghost use Prim.Native.Nat.{_<_, _≤_, _*_, _+_, _/_};
-ghost use lib.ListN.{length, getD, replicate};
+ghost use Prim.Native.Nat.{_≤_, _*_, _+_, _/_};
+ghost use lib.ListN.{length};
 ghost use Rattle.grammar.specs.Table.{recordAt};
 ghost use Rattle.grammar.specs.Judge.{reading};
 ghost use Rattle.reader.specs.Answer.{answerOf, tableOf};
-ghost use Rattle.records.specs.Records.{shorter, recordsOf, blank, nodesOf, copied};
+ghost use Rattle.records.specs.Records.{shorter, nodesOf, copied, recordsOf};
 use grammar::Node;
 use number::token::Counts;
 use reader::Answer;
@@ -77,23 +77,4 @@ pub fn read_records(
     let nodes = nodes_of(answer);
     copy_records(table, records, nodes);
     answer
-}
-
-// Record i of a blob, by way of eight records of its own: no parameter is a slice of structs, so that any program can call it.
-pub fn record_of(kind: u32, counts: Counts, blob: &[u8], table: &mut [u32], i: usize) -> Node
-    requires { ⌜ i < 8 ⌝ }
-    ensures { λ r. ⌜ (now (table .exit) ≡ tableOf (reading kind counts (now (blob .entry)) (shorter (length (now (table .entry)) / 6) 8)) (now (table .entry)))
-        × (r ≡ getD (recordsOf (reading kind counts (now (blob .entry)) (shorter (length (now (table .entry)) / 6) 8)) (replicate 8 blank)) i blank) ⌝ }
-{
-    let zero = Node {
-        kind: 0,
-        a: 0,
-        b: 0,
-        children: 0,
-        at: 0,
-        after: 0,
-    };
-    let mut records = [zero; 8];
-    read_records(kind, counts, blob, table, &mut records);
-    records[i]
 }
