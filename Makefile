@@ -16,14 +16,14 @@ test:
 host-test:
 	@mkdir -p target
 	@rt staticlib host >target/staticlib.log 2>&1 || { cat target/staticlib.log; exit 1; }
-	@cd host && cargo test --quiet --release --offline --features writer
-	@cd host && cargo run --quiet --release --offline --features writer --bin differential
+	@cd host && cargo test --quiet --release --offline --features archive
+	@cd host && cargo run --quiet --release --offline --features archive --bin differential
 
 # What the proofs cost: lines and check time of each crate. Then the archive's time over the independent implementation's, in one run.
 bench:
 	@tools/measure
 	@rt staticlib host >target/staticlib.log 2>&1 || { cat target/staticlib.log; exit 1; }
-	@cd host && cargo run --quiet --release --offline --features writer --bin bench -- ../target/bench.md
+	@cd host && cargo run --quiet --release --offline --features archive --bin bench -- ../target/bench.md
 
 clean:
 	rm -rf target host/target

@@ -16,7 +16,6 @@ pub struct Compare {
     pub write_codes: [u64; 16],
     ours: Lent<u32>,
     theirs: Lent<u32>,
-    #[cfg(feature = "writer")]
     out: (Lent<u8>, Lent<u8>),
 }
 
@@ -29,8 +28,7 @@ impl Default for Compare {
             write_codes: [0; 16],
             ours: Lent::new(MOST_NUMBERS),
             theirs: Lent::new(MOST_NUMBERS),
-            #[cfg(feature = "writer")]
-            out: (Lent::new(16_384), Lent::new(16_384)),
+                    out: (Lent::new(16_384), Lent::new(16_384)),
         }
     }
 }
@@ -111,7 +109,6 @@ impl Compare {
     }
 }
 
-#[cfg(feature = "writer")]
 impl Compare {
     /// Reads an accepted blob, writes its table and expects the blob back; gives the table.
     pub fn back(&mut self, rng: &mut Rng, case: &Case) -> Option<Vec<u32>> {

@@ -21,7 +21,6 @@ extern "C" {
         table_ptr: *mut u32,
         table_len: usize,
     ) -> u64;
-    #[cfg(feature = "writer")]
     fn dcl_write(
         kind: u32,
         type_defs: u32,
@@ -68,7 +67,6 @@ pub fn read(kind: u32, counts: Counts, blob: &[u8], table: &mut [u32]) -> Answer
     })
 }
 
-#[cfg(feature = "writer")]
 pub fn write(kind: u32, counts: Counts, table: &[u32], out: &mut [u8]) -> Answer {
     // SAFETY: pointers and lengths are those of two slices that live through the call and do not overlap.
     answer(unsafe {

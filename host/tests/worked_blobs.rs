@@ -33,7 +33,7 @@ fn run(kind: u32, counts: Counts, blob: &[u8]) -> (Answer, Vec<u32>) {
         let written = write(kind, counts, &table, &mut out);
         assert_eq!(written, (0, blob.len() as u32));
         assert_eq!(out, [blob, &[0x5A, 0x5A]].concat());
-        #[cfg(feature = "writer")]
+        #[cfg(feature = "archive")]
         {
             let mut lent = vec![0x5A; blob.len() + 2];
             assert_eq!(host::ffi::write(kind, counts, &table, &mut lent), written);

@@ -8,7 +8,7 @@ use mathlib.Core.Logic.{_⊎_, inl, inr, ⊎-elim}
 use native.Mathlib.Nat.{eq-or-lt-of-le}
 use native.Mathlib.Omega.{arith}
 use lib.Dec.{T, leb, ltb, leb→le, ltb→lt}
-use borrow.Author.Tests.{leb-true, leb-false, le-leb, lt-leb}
+use borrow.Author.Tests.{leb-true, le-leb}
 use Rattle.element.specs.declared.Form.{Form}
 use Rattle.element.specs.declared.Form.the-variants.{Refused}
 use Rattle.element.specs.Element.{Entry, run, within, lookup}

@@ -2,11 +2,11 @@
 -- Assumes nothing.
 use Prim.Native.Nat.{ℕ, zero, suc, _+_, _≤_, _<_}
 use native.Mathlib.Omega.{arith}
-use mathlib.Core.Path.{_≡_}
-use mathlib.Core.List.{List, [], _∷_, _++_}
+use mathlib.Core.Path.{_≡_, refl}
+use mathlib.Core.List.{List, _++_}
 use lib.ListN.{length, getD, length-append}
 use lib.Dec.{ltb, leb, eqb}
-use borrow.Author.Tests.{ltb-true}
+use borrow.Author.Tests.{ltb-true, le-leb}
 use Rattle.number.specs.Number.{maxNumber}
 use Rattle.number.specs.Checked.{checkedAt, countAt}
 use Rattle.number.specs.Token.{typeTags, modTags, tokenAt}
@@ -21,7 +21,7 @@ use Rattle.element.specs.declared.Form.the-variants.{Refused, Leaf, Named, Vari
 use Rattle.grammar.specs.Kinds.{maxKind, rootOf}
 use Rattle.grammar.specs.Limits.{maxBytes, maxNodes, maxDepth, maxRank}
 use Rattle.grammar.specs.Table.{kindOf, SIZE, LOW}
-use Rattle.grammar.specs.Judge.{Out, fault, done, numbered, many, bound, Reader, callable, array, body, opened, node, known, judge, reading}
+use Rattle.grammar.specs.Judge.{Out, fault, done, bind, check, numbered, many, bound, Reader, callable, array, body, node, known, judge, reading}
 use Rattle.grammar.specs.declared.Node.{Node}
 use Rattle.grammar.proofs.Sound.{Holds, stopped, holds, holds-bind, holds-check, holds-opened}
 
@@ -119,3 +119,12 @@ pub ends-reading : (kind : ℕ) (counts : Counts) (s : List ℕ) (lent : ℕ) �
 unfolding reading
 ends-reading kind counts s lent =
     holds-bind (judge kind counts s) _ (ends-judge kind counts s) (λ at n rs e. holds-check (leb n lent) 11 n _ (λ _. holds e))
+
+-- where every node has a record, 11 is not given
+pub reading-enough : (kind : ℕ) (counts : Counts) (s : List ℕ) (lent : ℕ) → maxNodes ≤ lent → reading kind counts s lent ≡ judge kind counts s
+unfolding reading
+reading-enough kind counts s lent l = go (judge kind counts s) (ends-judge kind counts s)
+  where
+    go : (o : Out) → Holds (Ends 0) o → bind o (λ at n rs. check (leb n lent) 11 n (λ _. done at n rs)) ≡ o
+    go (fault code place) h = refl
+    go (done at n rs) (holds h) = rw (le-leb n lent (omega (arith, h)))

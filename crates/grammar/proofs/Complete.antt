@@ -1,33 +1,30 @@
 -- What the grammar derives, the judge accepts, with the derivation's table.
 -- Assumes nothing.
-use Prim.Native.Nat.{ℕ, zero, suc, _+_, _≤_, _<_, zero-le, suc-le-suc}
+use Prim.Native.Nat.{ℕ, zero, suc, _+_, _≤_, zero-le, suc-le-suc}
 use native.Mathlib.Omega.{arith}
 use mathlib.Core.Path.{_≡_, refl, sym, _∙_}
-use mathlib.Core.Bool.{Bool, true, false, _&&_}
-use mathlib.Core.List.{List, [], _∷_, _++_}
-use lib.ListN.{length, getD}
+use mathlib.Core.Bool.{Bool, true, _&&_}
+use mathlib.Core.List.{List, _∷_, _++_}
+use lib.ListN.{length}
 use lib.Dec.{ltb, leb}
 use borrow.Author.Tests.{lt-ltb, le-leb}
-use Rattle.number.specs.Number.{numberAt, encode, maxNumber}
+use Rattle.number.specs.Number.{encode, maxNumber}
 use Rattle.number.specs.Checked.{checked, checkedAt, countOf, countAt}
 use Rattle.number.specs.Token.{tagOf, rowOf, rowsOf, typeTags, modTags, tokenOf, tokenAt}
-use Rattle.number.specs.declared.Number.{Number}
-use Rattle.number.specs.declared.Number.the-variants.{Value, Cut, BadByte, TooLong}
 use Rattle.number.specs.declared.checked.Checked.{Checked}
-use Rattle.number.specs.declared.checked.Checked.the-variants.{Good, Bad}
+use Rattle.number.specs.declared.checked.Checked.the-variants.{Good}
 use Rattle.number.specs.declared.token.Counts.{Counts}
-use Rattle.element.specs.Element.{within, formOf}
+use Rattle.element.specs.Element.{within}
 use Rattle.element.specs.declared.Place.{Place}
 use Rattle.element.specs.declared.Place.the-variants as Place
 use Rattle.element.specs.declared.Form.{Form}
-use Rattle.element.specs.declared.Form.the-variants.{Refused, Leaf, Named, Variable, Wrap, Modified, Counted, Array, Instance, FnPtr, Callable, Generic}
 use Rattle.grammar.specs.Limits.{maxNodes, maxRank}
 use Rattle.grammar.specs.Table.{entry, kindOf, SIZE, LOW}
-use Rattle.grammar.specs.Judge.{Out, fault, done, bind, check, numbered, number, count, token, many, bound, Reader, callable, body, allowed, opened, node}
+use Rattle.grammar.specs.Judge.{Out, done, bind, check, numbered, number, many, bound, Reader, callable, body, allowed, opened, node}
 use Rattle.grammar.specs.Derives.{Span, Numeral, Token, Many, none, more, Bound, bounded, Code, Call, call, Step, leaf, named, variable, wrap, modified, counted, array, inst, fnptr, method, generic, Derives}
 use Rattle.grammar.specs.declared.Node.{Node}
 use Rattle.number.proofs.Laws.{encoded}
-use Rattle.number.proofs.Stands.{Stands, byte, split, moved, stands-length}
+use Rattle.number.proofs.Stands.{Stands, split, moved, stands-length}
 
 -- an outcome is this one, and it ends where the bytes end
 pub record Meets (o : Out) (a n : ℕ) (rs : List Node) (z : ℕ) : Type 0 where

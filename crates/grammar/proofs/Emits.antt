@@ -13,12 +13,12 @@ use Rattle.number.proofs.Encoding.{encode-1}
 use Rattle.number.specs.declared.token.Counts.{Counts}
 use Rattle.element.specs.declared.Place.{Place}
 use Rattle.element.specs.declared.Place.the-variants as Place
-use Rattle.grammar.specs.Limits.{maxNodes, maxDepth}
-use Rattle.grammar.specs.Table.{entry, kindOf, SIZE, LOW, six, flat, recordAt}
-use Rattle.grammar.specs.Derives.{Span, Numeral, Many, none, more, Bound, bounded, Call, call, Step, leaf, named, variable, wrap, modified, counted, array, inst, fnptr, method, generic, Derives}
-use Rattle.grammar.specs.Emit.{Layout, layoutOf, partsOf, Emitted, torn, wrote, andThen, spell, times, parts, emit}
+use Rattle.grammar.specs.Limits.{maxNodes}
+use Rattle.grammar.specs.Table.{entry, SIZE, LOW, six, flat, recordAt}
+use Rattle.grammar.specs.Derives.{Span, Numeral, Many, none, more, Bound, bounded, call, Step, leaf, named, variable, wrap, modified, counted, array, inst, fnptr, method, generic, Derives}
+use Rattle.grammar.specs.Emit.{layoutOf, partsOf, Emitted, wrote, andThen, spell, times, parts, emit}
 use Rattle.grammar.specs.declared.Node.{Node}
-use Rattle.grammar.proofs.Size.{Sized, Sizes, many-size, bound-size, derives-size}
+use Rattle.grammar.proofs.Size.{Sizes, many-size, bound-size, derives-size}
 use Rattle.grammar.proofs.Layouts.{Fronted, leaf-front, named-front, variable-front, modified-front, inst-front, fnptr-front, counted-front, wrap-front, method-front, generic-front, array-parts}
 
 -- ---- records in a table
@@ -37,7 +37,7 @@ unfolding flat
 length-flat [] = refl
 length-flat (r ∷ rs) = let z = length-flat rs in omega arith
 
-record-at : (r : Node) (rest pre : List ℕ) (n : ℕ) → length pre ≡ 6 * n → recordAt (pre ++ (six r ++ rest)) n ≡ r
+pub record-at : (r : Node) (rest pre : List ℕ) (n : ℕ) → length pre ≡ 6 * n → recordAt (pre ++ (six r ++ rest)) n ≡ r
 record-at r rest pre n h =
     rw (← h)
     (λ i. record {

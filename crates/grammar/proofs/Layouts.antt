@@ -3,13 +3,13 @@
 -- Assumes nothing.
 use Prim.Native.Nat.{ℕ, zero, suc, _+_, _-_, _≤_, _<_}
 use native.Mathlib.Omega.{arith}
-use mathlib.Core.Path.{_≡_, refl, sym, _∙_}
+use mathlib.Core.Path.{_≡_, refl}
 use mathlib.Core.Bool.{Bool, true, false, cond, _&&_}
 use mathlib.Core.List.{List, [], _∷_}
 use lib.Dec.{ltb, eqb}
 use borrow.Author.Tests.{ltb-true, ltb-false, eqb-true, eqb-false, ne-eqb}
 use Rattle.number.specs.Number.{encode}
-use Rattle.element.specs.Element.{Entry, run, within, lookup, bare, leads, entries, formOf}
+use Rattle.element.specs.Element.{Entry, run, lookup, bare, leads, entries, formOf}
 use Rattle.element.specs.declared.Place.{Place}
 use Rattle.element.specs.declared.Place.the-variants as Place
 use Rattle.element.specs.declared.Form.{Form}
@@ -18,7 +18,7 @@ use Rattle.element.proofs.Runs.{outside}
 use Rattle.grammar.specs.Table.{entry, kindOf, FIELD, LOCALS}
 use Rattle.grammar.specs.Judge.{allowed}
 use Rattle.grammar.specs.Derives.{Code}
-use Rattle.grammar.specs.Emit.{Layout, plain, valued, array, instance, callable, field, locals, bound, layoutOf, partsOf}
+use Rattle.grammar.specs.Emit.{Layout, plain, valued, array, instance, callable, field, locals, layoutOf, partsOf}
 use Rattle.grammar.proofs.Sound.{both-left, both-right}
 
 -- ---- no byte from 80 hex on begins a node

@@ -4,7 +4,7 @@
 use Prim.Native.Nat.{ℕ, _≤_}
 use native.Mathlib.Omega.{arith}
 use mathlib.Core.Path.{_≡_, refl, sym, subst}
-use mathlib.Core.Bool.{Bool, true, false, _&&_}
+use mathlib.Core.Bool.{_&&_}
 use mathlib.Core.List.{List}
 use lib.ListN.{length}
 use lib.Dec.{leb, eqb}
@@ -15,7 +15,7 @@ use Rattle.number.proofs.Stands.{all-of, whole}
 use Rattle.grammar.specs.Kinds.{maxKind, rootOf}
 use Rattle.grammar.specs.Limits.{maxBytes, maxRows, maxDepth}
 use Rattle.grammar.specs.Table.{flat}
-use Rattle.grammar.specs.Judge.{Out, fault, done, bind, check, node, known, judge, reading}
+use Rattle.grammar.specs.Judge.{fault, done, check, node, known, judge, reading}
 use Rattle.grammar.specs.Derives.{Derives, Signature}
 use Rattle.grammar.specs.Emit.{wrote, emitted}
 use Rattle.grammar.specs.declared.Node.{Node}

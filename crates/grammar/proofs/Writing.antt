@@ -2,11 +2,10 @@
 -- Assumes nothing.
 use Prim.Native.Nat.{ℕ, zero, suc, _+_, _/_, _≤_, _<_}
 use native.Mathlib.Omega.{arith}
-use mathlib.Core.Path.{_≡_, refl, sym, ap, _∙_}
-use mathlib.Core.Bool.{Bool, true, false, cond, _&&_}
-use mathlib.Core.List.{List, [], _∷_, _++_}
-use mathlib.Core.Logic.{_⊎_, inl, inr}
-use lib.ListN.{length, getD}
+use mathlib.Core.Path.{_≡_, refl}
+use mathlib.Core.Bool.{Bool, true, false, cond}
+use mathlib.Core.List.{List, [], _∷_}
+use lib.ListN.{length}
 use lib.Dec.{leb, eqb}
 use borrow.Author.Tests.{leb-true, leb-false, le-leb, eqb-true, eq-eqb}
 use Rattle.number.specs.Number.{Bytes, encode}
@@ -16,10 +15,9 @@ use Rattle.grammar.specs.Kinds.{maxKind}
 use Rattle.grammar.specs.Limits.{maxDepth}
 use Rattle.grammar.specs.Table.{flat, recordAt}
 use Rattle.grammar.specs.Judge.{Out, fault, done, known, judge}
-use Rattle.grammar.specs.Derives.{Signature, HasTable}
+use Rattle.grammar.specs.Derives.{HasTable}
 use Rattle.grammar.specs.Emit.{layoutOf, partsOf, Emitted, torn, wrote, andThen, spell, times, parts, emit, emitted}
 use Rattle.grammar.specs.Writer.{same, isTable, Written, refused, written, fitted, confirmed, writing}
-use Rattle.grammar.specs.declared.Node.{Node}
 use Rattle.grammar.proofs.Sound.{both-left, both-right}
 use Rattle.grammar.proofs.Complete.{both}
 use Rattle.grammar.proofs.Reading.{accepted, derivable, emitted-back}

@@ -5,7 +5,7 @@
 --     encode-bytes, bytes-append   an encoding is bytes, and so are bytes after bytes
 -- Assumes nothing.
 use Prim.Native.Nat.{ℕ, zero, suc, _+_, _/_, _%_, _≤_, _<_}
-use mathlib.Core.Path.{_≡_, refl, ap, ap₂, subst, _∙_}
+use mathlib.Core.Path.{_≡_, refl, ap₂, subst, _∙_}
 use mathlib.Core.Bool.{Bool, true, false}
 use mathlib.Core.Logic.{_⊎_, inl, inr, ⊎-elim}
 use mathlib.Core.List.{List, [], _∷_, _++_}
@@ -17,7 +17,7 @@ use Rattle.number.specs.Number.{Bytes, limit, numberAt, encode, whole, v
 use Rattle.number.specs.declared.Number.the-variants.{Value, Cut, BadByte, TooLong}
 use Rattle.number.proofs.Cases.{at-end, one-byte, two-byte, four-byte, bad-byte, cut, too-long, fit}
 use Rattle.number.proofs.Encoding.{encode-1, encode-2, encode-4, encode-none}
-use Rattle.number.proofs.Stands.{Standing, Stands, stands-length, within}
+use Rattle.number.proofs.Stands.{Standing, Stands, within}
 
 split : (a b : ℕ) → (a < b) ⊎ (b ≤ a)
 split a b = go (ltb a b) refl

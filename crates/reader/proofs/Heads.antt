@@ -7,7 +7,7 @@ use mathlib.Core.Bool.{Bool, true, false, cond, _&&_}
 use mathlib.Core.List.{List}
 use lib.ListN.{length, getD}
 use lib.Dec.{leb}
-use borrow.Author.Tests.{lt-ltb, le-ltb, le-leb, lt-leb, leb-true}
+use borrow.Author.Tests.{lt-ltb, le-ltb, le-leb, leb-true}
 use Rattle.number.specs.Number.{Bytes, limit, numberAt}
 use Rattle.number.specs.Checked.{checked, checkedAt, countOf, countAt}
 use Rattle.number.specs.declared.Number.{Number}
@@ -25,7 +25,7 @@ use Rattle.grammar.specs.Limits.{maxNodes}
 use Rattle.grammar.specs.Table.{kindOf}
 use Rattle.grammar.specs.Judge.{allowed}
 use Rattle.grammar.proofs.Sound.{both-right}
-use Rattle.reader.specs.Open.{codeAt, opening, instanceOf, headOf, openOf, openCode, leading, leadForm, leadOf, leadCode}
+use Rattle.reader.specs.Open.{codeAt, opening, instanceOf, headOf, openOf, leading, leadForm, leadOf}
 use Rattle.reader.specs.declared.open.Code.{Code}
 use Rattle.reader.specs.declared.open.Code.the-variants as Code
 use Rattle.reader.specs.declared.open.Open.{Open}

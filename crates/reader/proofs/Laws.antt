@@ -1,6 +1,6 @@
 -- How walks are put together: their results, and what they leave in the table.
 -- Assumes nothing.
-use Prim.Native.Nat.{ℕ, zero, suc, _+_, _-_, _*_, _≤_, _<_}
+use Prim.Native.Nat.{ℕ, zero, suc, _+_, _-_, _≤_, _<_}
 use native.Mathlib.Omega.{arith}
 use mathlib.Core.Path.{_≡_, refl, sym, ap, subst, _∙_}
 use mathlib.Core.List.{List, [], _∷_, _++_, append-assoc, append-nil}
@@ -14,9 +14,8 @@ use Rattle.grammar.specs.Limits.{maxNodes, maxRank}
 use Rattle.grammar.specs.Table.{SIZE, LOW}
 use Rattle.grammar.specs.Judge.{Out, fault, done, bind, numbered, many, bound, Reader, array, node}
 use Rattle.grammar.specs.declared.Node.{Node}
-use Rattle.grammar.proofs.Sound.{Holds, stopped, holds}
+use Rattle.grammar.proofs.Sound.{Holds, holds}
 use Rattle.grammar.proofs.Bounds.{Ends, ends-many, ends-bound, ends-array, ends-node}
-use Rattle.reader.specs.Open.{head}
 use Rattle.reader.specs.Walk.{putOf, stamp, leaves, walkOf, Walked, recordOf, smallOf, sealsOf, Sealed, ShapeOut, cut, shaped, shapeNumber, shapePrepend, shapeThen, lowsOf, shapeOf, shapeResult, shapeLeaves, Shaped, arrayOf}
 use Rattle.reader.specs.declared.open.Head.{Head}
 use Rattle.reader.specs.declared.walk.Walk.{Walk}

@@ -2,8 +2,8 @@
 -- Assumes nothing.
 use Prim.Native.Nat.{ℕ, zero, suc, _+_, _-_, _≤_, _<_}
 use native.Mathlib.Omega.{arith}
-use mathlib.Core.Path.{_≡_, refl, sym, subst, _∙_}
-use mathlib.Core.Bool.{Bool, true, false, cond, not, _&&_}
+use mathlib.Core.Path.{_≡_, refl, _∙_}
+use mathlib.Core.Bool.{Bool, true, false, cond, not}
 use mathlib.Core.List.{List, [], _∷_, _++_}
 use lib.ListN.{length, getD}
 use lib.Dec.{ltb, leb}
@@ -21,9 +21,8 @@ use Rattle.element.specs.declared.Form.{Form}
 use Rattle.element.specs.declared.Form.the-variants.{Refused, Leaf, Named, Variable, Wrap, Modified, Counted, Array, Instance, FnPtr, Callable, Generic}
 use Rattle.element.proofs.Runs.{lookup-passes}
 use Rattle.grammar.specs.Limits.{maxNodes}
-use Rattle.grammar.specs.Table.{entry, kindOf}
+use Rattle.grammar.specs.Table.{kindOf}
 use Rattle.grammar.specs.Judge.{Out, fault, done, bind, check, numbered, many, Reader, callable, array, body, allowed, opened, node}
-use Rattle.grammar.specs.declared.Node.{Node}
 use Rattle.reader.specs.Open.{head, codeAt, opening, instanceOf, headOf, openOf, openCode, leading, callOf, genericOf, leadForm, leadOf, leadCode}
 use Rattle.reader.specs.Walk.{called, recordOf}
 use Rattle.reader.specs.declared.open.Head.{Head}

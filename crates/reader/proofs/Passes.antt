@@ -1,19 +1,16 @@
 -- The ways out of `read`, over what the two walks promise.
 -- Assumes nothing.
-use Prim.Native.Nat.{ℕ, zero, suc, _+_, _*_, _/_, _≤_, _<_}
+use Prim.Native.Nat.{ℕ, _+_, _*_, _/_, _≤_, _<_}
 use native.Mathlib.Omega.{arith}
 use mathlib.Core.Path.{_≡_, refl, sym, ap, _∙_}
 use mathlib.Core.List.{List, [], _∷_, _++_}
 use lib.ListN.{length, take, drop}
-use lib.Dec.{leb, eqb}
+use lib.Dec.{leb}
 use borrow.Author.Tests.{le-leb, lt-leb}
 use Rattle.number.specs.declared.token.Counts.{Counts}
-use Rattle.grammar.specs.Kinds.{maxKind, rootOf}
-use Rattle.grammar.specs.Limits.{maxBytes, maxDepth}
 use Rattle.grammar.specs.Table.{flat}
-use Rattle.grammar.specs.Judge.{Out, fault, done, bind, check, node, known, judge, reading}
-use Rattle.grammar.specs.declared.Node.{Node}
-use Rattle.grammar.proofs.Sound.{Holds, holds, holds-bind, holds-check}
+use Rattle.grammar.specs.Judge.{Out, fault, done, bind, check, judge, reading}
+use Rattle.grammar.proofs.Sound.{Holds, holds}
 use Rattle.grammar.proofs.Bounds.{Ends, ends-judge}
 use Rattle.grammar.proofs.Refusals.{judge-refuses}
 use Rattle.reader.specs.Answer.{answer, answerOf, tableOf}

@@ -1,14 +1,14 @@
 -- Records put into a table: two stamps one after the other are a stamp of the whole, and where all fits it is the flat list.
 -- Assumes nothing.
 use borrow.Author.Tests.{le-leb, lt-leb, leb-true, leb-false}
-use mathlib.Core.Path.{_≡_, refl, sym, ap, subst, _∙_}
+use mathlib.Core.Path.{_≡_, refl, sym, ap, _∙_}
 use mathlib.Core.Bool.{Bool, true, false, cond}
 use mathlib.Core.List.{List, [], _∷_, _++_, append-assoc}
-use Prim.Native.Nat.{ℕ, zero, suc, _+_, _*_, _≤_, _<_}
+use Prim.Native.Nat.{ℕ, suc, _+_, _*_, _≤_, _<_}
 use native.Mathlib.Nat.{add-zero}
 use native.Mathlib.Omega.{arith}
-use lib.ListN.{length, set, take, drop, length-set, length-append, take-append-drop}
-use lib.Seq.{sets, length-sets, sets-eq, set-comm, take-at, drop-at, take-append-le, drop-append-le, length-take-le, take-take}
+use lib.ListN.{length, set, take, drop, length-append, take-append-drop}
+use lib.Seq.{sets, length-sets, sets-eq, set-comm, drop-at, take-append-le, length-take-le, take-take}
 use lib.Dec.{leb}
 use Rattle.grammar.specs.Table.{six, flat}
 use Rattle.grammar.specs.declared.Node.{Node}

@@ -1,12 +1,12 @@
 -- Each way through a function of the walk, as one law over plain values. A need cites one of them, with `_` for what the goal shows.
 -- Assumes nothing.
-use Prim.Native.Nat.{ℕ, zero, suc, _+_, _-_, _≤_, _<_}
+use Prim.Native.Nat.{ℕ, _+_, _-_, _≤_, _<_}
 use native.Mathlib.Omega.{arith}
 use mathlib.Core.Path.{_≡_, refl, sym, ap, subst, _∙_}
-use mathlib.Core.Bool.{Bool, true, false, _&&_}
-use mathlib.Core.List.{List, [], _∷_}
+use mathlib.Core.Bool.{true, false}
+use mathlib.Core.List.{List, []}
 use lib.ListN.{length}
-use lib.Dec.{ltb, leb, eqb}
+use lib.Dec.{eqb}
 use borrow.Author.Tests.{lt-ltb, le-ltb, le-leb, lt-leb, eq-eqb, ne-eqb}
 use Rattle.number.specs.Checked.{checkedAt}
 use Rattle.number.specs.declared.checked.Checked.{Checked}
@@ -20,13 +20,10 @@ use Rattle.grammar.specs.Kinds.{maxKind, rootOf}
 use Rattle.grammar.specs.Limits.{maxBytes, maxNodes, maxDepth}
 use Rattle.grammar.specs.Table.{kindOf}
 use Rattle.grammar.specs.Judge.{Out, fault, done, bind, check, many, bound, node, known, judge}
-use Rattle.grammar.specs.declared.Node.{Node}
-use Rattle.grammar.proofs.Sound.{Holds, holds}
-use Rattle.grammar.proofs.Bounds.{Ends, ends-many, ends-node}
+use Rattle.grammar.proofs.Bounds.{ends-many, ends-node}
 use Rattle.reader.specs.Answer.{answer, answerOf}
 use Rattle.reader.specs.Open.{head, codeAt, openOf, leading, callOf, genericOf, leadForm, leadOf, leadCode}
-use Rattle.reader.specs.Walk.{called, stamp, leaves, walkOf, Walked, Judged, smallOf, Sealed, arrayOf}
-use Rattle.reader.specs.declared.Answer.{Answer}
+use Rattle.reader.specs.Walk.{called, leaves, walkOf, Walked, Judged, smallOf, Sealed, arrayOf}
 use Rattle.reader.specs.declared.open.Head.{Head}
 use Rattle.reader.specs.declared.open.Code.{Code}
 use Rattle.reader.specs.declared.open.Code.the-variants as Code
@@ -37,7 +34,7 @@ use Rattle.reader.specs.declared.open.Lead.the-variants as Lead
 use Rattle.reader.specs.declared.walk.Walk.{Walk}
 use Rattle.reader.specs.declared.walk.Walk.the-variants.{Next, Stop}
 use Rattle.reader.proofs.Stamp.{length-stamp}
-use Rattle.reader.proofs.Opens.{andThen, sealed, onOpen, onLead, Begun, shut, begun, code-begun, Begins, node-open, open-begins, node-lead}
+use Rattle.reader.proofs.Opens.{sealed, onOpen, onLead, Begun, begun, code-begun, Begins, node-open, open-begins, node-lead}
 use Rattle.reader.proofs.Laws.{clash, walked-fault, walked-is, found, still, walked-seal, walked-stop, walked-then, walked-next, walked-small}
 
 -- ---- bound_at. y is what the call gave, and its contract says that it is `checkedAt`

@@ -1,9 +1,9 @@
 -- Demand 2 at the reader's level: what the contracts of `judge` and `read` mean, by the declarative grammar. s is the blob, t the table
 -- lent, of which every six numbers are a record.
 -- Assumes nothing.
-use Prim.Native.Nat.{ℕ, _+_, _*_, _/_, _≤_, _<_}
+use Prim.Native.Nat.{ℕ, _+_, _*_, _/_, _≤_}
 use native.Mathlib.Omega.{arith}
-use mathlib.Core.Path.{_≡_, refl, sym, ap, _∙_}
+use mathlib.Core.Path.{_≡_, refl}
 use mathlib.Core.List.{List, _++_}
 use lib.ListN.{length, drop}
 use Rattle.number.specs.Number.{Bytes}

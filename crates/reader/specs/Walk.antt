@@ -14,7 +14,7 @@ use Rattle.element.specs.declared.Place.{Place}
 use Rattle.element.specs.declared.Place.the-variants as Place
 use Rattle.grammar.specs.Limits.{maxRank}
 use Rattle.grammar.specs.Table.{entry, SIZE, LOW, six}
-use Rattle.grammar.specs.Judge.{Out, fault, done, bind, many, bound, array, node}
+use Rattle.grammar.specs.Judge.{Out, fault, done, many, bound, array, node}
 use Rattle.grammar.specs.declared.Node.{Node}
 use Rattle.reader.specs.Answer.{answerOf}
 use Rattle.reader.specs.Open.{head}

@@ -7,16 +7,17 @@ use native.Mathlib.Omega.{arith}
 use mathlib.Core.Path.{_≡_, refl, sym, ap, _∙_}
 use mathlib.Core.Bool.{Bool, true, false, cond}
 use mathlib.Core.List.{List, [], _∷_, _++_, append-assoc}
-use lib.ListN.{length, getD, take, drop, length-append}
-use lib.Seq.{getD-append-add, length-take-le}
-use lib.Dec.{leb, ltb, eqb}
-use borrow.Author.Tests.{lt-ltb, le-ltb, ne-eqb, eq-eqb, leb-true, ltb-true, ltb-false}
+use lib.ListN.{length, take, drop, length-append}
+use lib.Seq.{length-take-le}
+use lib.Dec.{leb, ltb}
+use borrow.Author.Tests.{lt-ltb, le-ltb, ne-eqb, leb-true, ltb-true, ltb-false}
 use Rattle.number.specs.declared.token.Counts.{Counts}
-use Rattle.grammar.specs.Table.{six, flat, recordAt}
+use Rattle.grammar.specs.Table.{six, flat}
 use Rattle.grammar.specs.Judge.{Out, fault, done, judge, reading}
 use Rattle.grammar.specs.declared.Node.{Node}
 use Rattle.grammar.proofs.Sound.{Holds, holds, holds-bind, holds-check, holds-done}
 use Rattle.grammar.proofs.Bounds.{Ends, ends-judge, ends-reading}
+use Rattle.grammar.proofs.Emits.{record-at}
 use Rattle.grammar.proofs.Refusals.{read-refuses}
 use Rattle.reader.specs.Answer.{answer, answerOf, tableOf}
 use Rattle.reader.specs.declared.Answer.{Answer}
@@ -36,21 +37,6 @@ drop-take (suc k) (suc m) (x ∷ t) l = drop-take k m t (le-of-suc-le-suc l)
 -- the prefix that is lent
 pub prefix-length : (t : List ℕ) (m : ℕ) → m < length t / 6 → 6 * m ≡ length (take (6 * m) t)
 prefix-length t m l = sym (length-take-le (6 * m) t (omega (arith, l)))
-
-record-at : (r : Node) (rest pre : List ℕ) (n : ℕ) → length pre ≡ 6 * n → recordAt (pre ++ (six r ++ rest)) n ≡ r
-record-at r rest pre n h =
-    rw (← h)
-    (λ i. record {
-      kind = getD-0 i;
-      a = getD-append-add pre (six r ++ rest) 1 0 i;
-      b = getD-append-add pre (six r ++ rest) 2 0 i;
-      children = getD-append-add pre (six r ++ rest) 3 0 i;
-      at = getD-append-add pre (six r ++ rest) 4 0 i;
-      after = getD-append-add pre (six r ++ rest) 5 0 i;
-    })
-  where
-    getD-0 : getD (pre ++ (six r ++ rest)) (length pre) 0 ≡ r .kind
-    getD-0 = let z : length pre ≡ length pre + 0 = omega arith in ap (λ (i : ℕ). getD (pre ++ (six r ++ rest)) i 0) z ∙ getD-append-add pre (six r ++ rest) 0 0
 
 -- the records of a flat list are those it was made of
 nodes-flat : (rs : List Node) (rest pre : List ℕ) (i : ℕ) → length pre ≡ 6 * i → nodesFrom (pre ++ (flat rs ++ rest)) i (length rs) ≡ rs

@@ -6,14 +6,12 @@ use native.Mathlib.Omega.{arith}
 use mathlib.Core.Path.{_≡_, refl, ap, _∙_}
 use mathlib.Core.List.{List, _++_}
 use lib.ListN.{length, drop, replicate, length-replicate}
-use lib.Dec.{leb}
-use borrow.Author.Tests.{le-leb}
 use Rattle.number.specs.declared.token.Counts.{Counts}
 use Rattle.grammar.specs.Limits.{maxNodes}
 use Rattle.grammar.specs.Table.{flat}
-use Rattle.grammar.specs.Judge.{Out, fault, done, bind, check, judge, reading}
+use Rattle.grammar.specs.Judge.{Out, fault, done, judge, reading}
 use Rattle.grammar.proofs.Sound.{Holds, holds}
-use Rattle.grammar.proofs.Bounds.{Ends, ends-judge}
+use Rattle.grammar.proofs.Bounds.{Ends, ends-judge, reading-enough}
 use Rattle.grammar.proofs.Refusals.{judge-refuses}
 use Rattle.reader.specs.Answer.{answerOf, tableOf}
 use Rattle.reader.specs.declared.Answer.{Answer}
@@ -23,15 +21,6 @@ use Rattle.register.specs.Named.{collected, namedBy}
 use Rattle.register.specs.Calls.{findingOf}
 use Rattle.register.specs.declared.Finding.{Finding}
 use Rattle.register.proofs.Collects.{collected-cong, named-front}
-
--- 11 is not given where every node has a record
-enough : (o : Out) (lent : ℕ) → Holds (Ends 0) o → maxNodes ≤ lent → bind o (λ at n rs. check (leb n lent) 11 n (λ _. done at n rs)) ≡ o
-enough (fault code place) lent h l = refl
-enough (done at n rs) lent (holds h) l = rw (le-leb n lent (omega (arith, h)))
-
-reading-judge : (kind : ℕ) (counts : Counts) (s : List ℕ) (lent : ℕ) → maxNodes ≤ lent → reading kind counts s lent ≡ judge kind counts s
-unfolding reading
-reading-judge kind counts s lent l = enough (judge kind counts s) lent (ends-judge kind counts s) l
 
 abbrev finding : (state code place : ℕ) → Finding
 finding state code place = record { state = state; code = code; place = place }
@@ -77,7 +66,7 @@ lent = replicate tableSize 0
 module _ (counts : Counts) (s t : List ℕ) (r : Answer)
     (x : (r ≡ answerOf (reading 0 counts s (length lent / 6))) × (t ≡ tableOf (reading 0 counts s (length lent / 6)) lent)) where
   same : reading 0 counts s (length lent / 6) ≡ judge 0 counts s
-  same = reading-judge 0 counts s (length lent / 6) (omega (arith, length-replicate {A = ℕ} tableSize 0))
+  same = reading-enough 0 counts s (length lent / 6) (omega (arith, length-replicate {A = ℕ} tableSize 0))
 
   refuses : (c p : ℕ) → judge 0 counts s ≡ fault c p → 1 ≤ c
   refuses c p e = judge-refuses 0 counts s c p e .0 .0

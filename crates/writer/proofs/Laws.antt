@@ -4,7 +4,7 @@ use Prim.Native.Nat.{ℕ, zero, suc, _+_, _-_, _≤_, _<_}
 use native.Mathlib.Omega.{arith}
 use mathlib.Core.Path.{_≡_, refl, sym, ap, subst, _∙_}
 use mathlib.Core.Bool.{Bool, true, false, cond}
-use mathlib.Core.List.{List, [], _∷_, _++_, append-assoc, append-nil}
+use mathlib.Core.List.{List, [], _∷_, _++_, append-assoc}
 use lib.ListN.{length, set, length-append}
 use lib.Seq.{sets, length-sets}
 use lib.Dec.{leb}
@@ -12,7 +12,7 @@ use borrow.Author.Tests.{leb-true, leb-false, le-leb, lt-leb}
 use Rattle.number.specs.Number.{encode, putAt}
 use Rattle.number.proofs.Encoding.{put-fits}
 use Rattle.grammar.specs.Emit.{Emitted, torn, wrote, andThen, spell, times}
-use Rattle.writer.specs.Emission.{spelled, followed, resultOf, leavesOf, Emits}
+use Rattle.writer.specs.Emission.{followed, resultOf, leavesOf, Emits}
 use Rattle.writer.specs.declared.emit.Emit.{Emit}
 use Rattle.writer.specs.declared.emit.Emit.the-variants.{Next, Stop}
 
@@ -117,22 +117,10 @@ number-next v at n e o o₁ h x p =
 
 -- ---- numbers in a row
 
-spell-then : (vs ws rest : List ℕ) → spell (vs ++ ws) rest ≡ spell vs [] ++ spell ws rest
-unfolding spell
-spell-then [] ws rest = refl
-spell-then (v ∷ vs) ws rest = ap (λ (l : List ℕ). encode v ++ l) (spell-then vs ws rest) ∙ sym (append-assoc (encode v) (spell vs []) (spell ws rest))
-
-pub spelled-one : (x n : ℕ) → spelled (x ∷ []) n ≡ wrote (encode x) n
-unfolding spell
-spelled-one x n = ap (λ (l : List ℕ). wrote l n) (append-nil (encode x))
-
-pub spelled-then : (vs ws : List ℕ) (n : ℕ) → spelled (vs ++ ws) n ≡ followed (spelled vs n) (spelled ws)
-unfolding followed
-spelled-then vs ws n = ap (λ (l : List ℕ). wrote l n) (spell-then vs ws [])
-
 pub spell-rest : (vs rest : List ℕ) → spell vs rest ≡ spell vs [] ++ rest
 unfolding spell
-spell-rest vs rest = sym (ap (λ (l : List ℕ). spell l rest) (append-nil vs)) ∙ spell-then vs [] rest
+spell-rest [] rest = refl
+spell-rest (v ∷ vs) rest = ap (λ (l : List ℕ). encode v ++ l) (spell-rest vs rest) ∙ sym (append-assoc (encode v) (spell vs []) rest)
 
 -- an emission that went on ended inside the buffer
 pub next-within : (q : Emitted) (at e n : ℕ) (o o₁ : List ℕ) → Emits q at (Next e n) o o₁ → e ≤ length o₁

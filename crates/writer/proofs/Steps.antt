@@ -2,22 +2,22 @@
 -- Assumes nothing.
 use Prim.Native.Nat.{ℕ, zero, suc, _+_, _-_, _/_, _≤_, _<_}
 use native.Mathlib.Omega.{arith}
-use mathlib.Core.Path.{_≡_, refl, sym, ap, subst, _∙_}
+use mathlib.Core.Path.{_≡_, refl, sym, ap, _∙_}
 use mathlib.Core.Bool.{Bool, true, false, cond}
 use mathlib.Core.List.{List, [], _∷_, _++_, append-assoc, append-nil}
 use lib.ListN.{length}
 use lib.Dec.{leb, eqb}
-use borrow.Author.Tests.{eqb-true, eqb-false, eq-eqb, ne-eqb, le-leb, lt-leb}
+use borrow.Author.Tests.{eqb-true, eq-eqb, ne-eqb, le-leb, lt-leb}
 use Rattle.number.specs.Number.{encode}
 use Rattle.grammar.specs.Table.{recordAt}
-use Rattle.grammar.specs.Emit.{Layout, plain, valued, array, instance, callable, field, locals, bound, layouts, layoutIn, layoutOf, lowsOf, partsOf, Emitted, torn, wrote, andThen, spell, times, parts, emit}
+use Rattle.grammar.specs.Emit.{Layout, plain, array, callable, layouts, layoutIn, layoutOf, lowsOf, partsOf, Emitted, torn, wrote, andThen, spell, times, parts, emit}
 use Rattle.grammar.specs.declared.Node.{Node}
 use Rattle.writer.specs.Emission.{numbersOf, frontOf, spelled, followed, Emits}
 use Rattle.writer.specs.declared.emit.Emit.{Emit}
 use Rattle.writer.specs.declared.emit.Emit.the-variants.{Next, Stop}
 use Rattle.writer.specs.declared.emit.Front.{Front}
 use Rattle.writer.specs.declared.emit.Front.the-variants.{Single, Pair, Triple, Quad}
-use Rattle.writer.proofs.Laws.{emits-torn, emits-stop, emits-next, emits-is, found, spell-rest, next-within}
+use Rattle.writer.proofs.Laws.{emits-torn, emits-stop, emits-next, emits-is, found, spell-rest}
 
 -- ---- call_front and front_of
 

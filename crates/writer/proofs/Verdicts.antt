@@ -1,24 +1,24 @@
 -- What is emitted, judged again and held against the table: the ways through `confirms`, `write_known` and `write`, as laws over plain values.
 -- Assumes nothing.
-use Prim.Native.Nat.{ℕ, zero, suc, _+_, _*_, _/_, _≤_, _<_}
+use Prim.Native.Nat.{ℕ, _+_, _*_, _/_, _≤_, _<_}
 use native.Mathlib.Omega.{arith}
-use mathlib.Core.Path.{_≡_, refl, sym, ap, subst, _∙_}
-use mathlib.Core.Bool.{Bool, true, false, cond}
-use mathlib.Core.List.{List, [], _∷_, _++_}
+use mathlib.Core.Path.{_≡_, refl, sym, ap, _∙_}
+use mathlib.Core.Bool.{Bool, true, false}
+use mathlib.Core.List.{List, _++_}
 use lib.ListN.{length, take, drop, replicate, length-replicate}
 use lib.Seq.{sets, sets-eq, take-at, length-take-le}
 use lib.Dec.{leb}
 use borrow.Author.Tests.{le-leb, lt-leb}
 use Rattle.number.specs.declared.token.Counts.{Counts}
-use Rattle.grammar.specs.Limits.{maxBytes, maxNodes, maxDepth}
-use Rattle.grammar.specs.Kinds.{maxKind, rootOf}
+use Rattle.grammar.specs.Limits.{maxBytes}
+use Rattle.grammar.specs.Kinds.{maxKind}
 use Rattle.grammar.specs.Table.{flat}
-use Rattle.grammar.specs.Judge.{Out, fault, done, bind, check, known, judge, reading}
+use Rattle.grammar.specs.Judge.{Out, fault, done, check, known, judge, reading}
 use Rattle.grammar.specs.Emit.{Emitted, torn, wrote, emitted}
 use Rattle.grammar.specs.Writer.{same, isTable, confirmed, writing}
 use Rattle.grammar.specs.declared.Node.{Node}
-use Rattle.grammar.proofs.Sound.{Holds, stopped, holds}
-use Rattle.grammar.proofs.Bounds.{Ends, ends-judge}
+use Rattle.grammar.proofs.Sound.{Holds, holds}
+use Rattle.grammar.proofs.Bounds.{Ends, ends-judge, reading-enough}
 use Rattle.grammar.proofs.Refusals.{judge-refuses}
 use Rattle.grammar.proofs.Emits.{length-flat}
 use Rattle.reader.specs.Answer as reader
@@ -34,18 +34,12 @@ use Rattle.writer.proofs.Laws.{clash, Fit, fits, over, fit, found, next
 abbrev lent : List ℕ
 lent = replicate 6144 0
 
--- as many records as any table can have refuse nothing
-reading-all : (kind : ℕ) (counts : Counts) (s : List ℕ) → reading kind counts s (length lent / 6) ≡ judge kind counts s
-unfolding reading
-reading-all kind counts s = ap (λ (n : ℕ). reading kind counts s (n / 6)) (length-replicate {A = ℕ} 6144 0) ∙ go (judge kind counts s) (ends-judge kind counts s)
-  where
-    go : (x : Out) → Holds (Ends 0) x → bind x (λ at n rs. check (leb n 1024) 11 n (λ _. done at n rs)) ≡ x
-    go (fault c p) h = refl
-    go (done at n rs) (holds g) = rw (le-leb n 1024 (g .0))
+enough : (kind : ℕ) (counts : Counts) (s : List ℕ) → reading kind counts s (length lent / 6) ≡ judge kind counts s
+enough kind counts s = reading-enough kind counts s (length lent / 6) (omega (arith, length-replicate {A = ℕ} 6144 0))
 
 module _ (kind : ℕ) (counts : Counts) (s : List ℕ) (a : Answer) (e : a ≡ reader.answerOf (reading kind counts s (length lent / 6))) where
   answered : a ≡ reader.answerOf (judge kind counts s)
-  answered = e ∙ ap reader.answerOf (reading-all kind counts s)
+  answered = e ∙ ap reader.answerOf (enough kind counts s)
 
   pub confirms-not : (t : List ℕ) → (a .code ≡ 0 → ⊥) → false ≡ isTable t (judge kind counts s)
   unfolding reader.answerOf isTable
@@ -89,7 +83,7 @@ module _ (kind : ℕ) (counts : Counts) (s : List ℕ) (a : Answer) (e : a ≡ r
         go : Read → r ≡ isTable t (judge kind counts s)
         go (got at rs g i l) =
             let n : length (flat rs) ≡ 6 * (a .place) = length-flat rs ∙ ap (λ (k : ℕ). 6 * k) (sym l) in
-            let u : o₁ ≡ flat rs ++ drop (6 * (a .place)) lent = j ∙ ap (λ (x : Out). reader.tableOf x lent) (reading-all kind counts s ∙ g) in
+            let u : o₁ ≡ flat rs ++ drop (6 * (a .place)) lent = j ∙ ap (λ (x : Out). reader.tableOf x lent) (enough kind counts s ∙ g) in
             let v : take (6 * (a .place)) o₁ ≡ flat rs = ap (take (6 * (a .place))) u ∙ take-at (flat rs) _ (6 * (a .place)) n in
             q ∙ ap (λ (x : List ℕ). same x t) v ∙ sym (ap (isTable t) g)
 

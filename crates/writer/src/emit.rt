@@ -140,10 +140,10 @@ pub fn emit_at(out: &mut [u8], d: usize, table: &[u32], at: usize, n: usize) -> 
         return Emit::Stop;
     }
     let node = record_at(table, n);
-    let front = front_of(node);
     if node.kind == ARRAY {
         return array_at(out, d - 1, table, node, at, n + 1);
     }
+    let front = front_of(node);
     part_at(out, d - 1, table, front, node.children, at, n + 1)
 }
 

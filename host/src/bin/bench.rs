@@ -68,7 +68,6 @@ fn report() -> String {
         )
         .expect("a string takes all");
     }
-    #[cfg(feature = "writer")]
     text.push_str(&writing::report());
     writeln!(
         text,
@@ -197,7 +196,6 @@ fn read(cases: &[Case], table: &mut [u32]) -> Pair {
     alternate(cases, || pass(ffi::read), || pass(reference::read))
 }
 
-#[cfg(feature = "writer")]
 mod writing {
     use super::*;
 

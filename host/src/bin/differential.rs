@@ -55,12 +55,9 @@ fn main() -> ExitCode {
     run.part("every cut", every_cut);
     run.part("every byte changed", every_change);
     run.part("records lent", records_lent);
-    #[cfg(feature = "writer")]
-    {
-        run.part("there and back", writing::there_and_back);
-        run.part("damaged tables", writing::damaged_tables);
-        run.part("tables of noise", writing::noise_tables);
-    }
+    run.part("there and back", writing::there_and_back);
+    run.part("damaged tables", writing::damaged_tables);
+    run.part("tables of noise", writing::noise_tables);
     verdict(&run.compare)
 }
 
@@ -230,14 +227,13 @@ fn records_lent(run: &mut Run) {
 
 /// The table of numbers, and whether all went as it should.
 fn verdict(compare: &Compare) -> ExitCode {
-    let writer = cfg!(feature = "writer");
     let mut missing = Vec::new();
     println!("number      reader      writer");
     for code in 0..16 {
         let (read, write) = (compare.read_codes[code], compare.write_codes[code]);
         println!("{code:>6} {read:>11} {write:>11}");
         let due_from_reader = code < 14 && read == 0;
-        let due_from_writer = writer && (code == 0 || code > 11) && write == 0;
+        let due_from_writer = (code == 0 || code > 11) && write == 0;
         if due_from_reader || due_from_writer {
             missing.push(code);
         }
@@ -254,7 +250,6 @@ fn verdict(compare: &Compare) -> ExitCode {
     }
 }
 
-#[cfg(feature = "writer")]
 mod writing {
     use super::*;
     use host::gen::{damage_table, relayout};

@@ -1,5 +1,5 @@
 -- `records::nodes_of` meets its contract. Assumes nothing.
-use mathlib.Core.Path.{refl, sym}
+use mathlib.Core.Path.{refl}
 use borrow.Author.Tests.{eq-eqb, ne-eqb}
 use Rattle.records.proofs.nodes_of.Statement.{statement}
 use Rattle.records.proofs.nodes_of.Tie as tie

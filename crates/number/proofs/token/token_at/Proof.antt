@@ -1,5 +1,4 @@
 -- `number::token::token_at` meets its contract. Assumes nothing.
-use native.Mathlib.Omega.{arith}
 use borrow.Author.Needs.{needs}
 use Rattle.number.proofs.Checks.{token-bad, token-tag, token-zero, token-past, token-in}
 use Rattle.number.proofs.token.token_at.Statement.{statement}

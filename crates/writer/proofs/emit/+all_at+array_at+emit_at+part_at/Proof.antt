@@ -119,10 +119,10 @@ pub +all-at+array-at+emit-at+part-at-spec : {M : Type 1} → statement M
     (λ t. emit-at-lts.spec (
       record-at-reads.Asked,
       record-at-reads.Learnt,
-      front-of-reads.Asked,
-      front-of-reads.Learnt,
       array-at-below t,
       array-at.Post,
+      front-of-reads.Asked,
+      front-of-reads.Learnt,
       part-at-below t,
       part-at.Post,
     )
@@ -131,17 +131,17 @@ pub +all-at+array-at+emit-at+part-at-spec : {M : Type 1} → statement M
     (λ c. emit-deep _ _ _ _ _ (c .if1 .taken))
     (λ c. emit-past _ _ _ _ _ (c .before .if1 .left) (c .if2 .taken))
     (λ c κs. search needs)
+    (λ c. search needs)
+    (λ c. search needs)
+    (λ c κs. search needs)
+    (λ c. search needs)
+    (λ c. emit-array _ _ _ _ (c .before .before .before .before .before .before .before .before .if1 .left) (c .before .before .before .before .before .before .before .if2 .left) _ (c .before .before .before .before .before .before .record-at .ensures) _ _ _ (c .before .before .before .before .if3 .taken) (c .before .before .array-at .ensures))
     (λ c κs. search needs)
     (λ c. search needs)
     (λ c. search needs)
     (λ c κs. search needs)
     (λ c. search needs)
-    (λ c. emit-array _ _ _ _ (c .before .before .before .before .before .before .before .before .before .if1 .left) (c .before .before .before .before .before .before .before .before .if2 .left) _ (c .before .before .before .before .before .before .before .record-at .ensures) _ _ _ (c .before .before .before .before .if3 .taken) (c .before .before .array-at .ensures))
-    (λ c. search needs)
-    (λ c. search needs)
-    (λ c κs. search needs)
-    (λ c. search needs)
-    (λ c. emit-part _ _ _ _ (c .before .before .before .before .before .before .before .before .before .if1 .left) (c .before .before .before .before .before .before .before .before .if2 .left) _ (c .before .before .before .before .before .before .before .record-at .ensures) _ _ _ (c .before .before .before .before .before .before .front-of .result) (c .before .before .before .before .if3 .left) (c .before .before .before .before .before .before .front-of .ensures) (c .before .before .part-at .ensures)))
+    (λ c. emit-part _ _ _ _ (c .before .before .before .before .before .before .before .before .before .if1 .left) (c .before .before .before .before .before .before .before .before .if2 .left) _ (c .before .before .before .before .before .before .before .record-at .ensures) _ _ _ (c .before .before .before .before .front-of .result) (c .before .before .before .before .before .if3 .left) (c .before .before .before .before .front-of .ensures) (c .before .before .part-at .ensures)))
     λ t. part-at-lts.spec
     (front-to-reads.Asked, front-to-reads.Learnt, all-at-below t, all-at.Post)
     (part-at-at t)
