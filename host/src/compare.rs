@@ -28,7 +28,7 @@ impl Default for Compare {
             write_codes: [0; 16],
             ours: Lent::new(MOST_NUMBERS),
             theirs: Lent::new(MOST_NUMBERS),
-                    out: (Lent::new(16_384), Lent::new(16_384)),
+            out: (Lent::new(16_384), Lent::new(16_384)),
         }
     }
 }

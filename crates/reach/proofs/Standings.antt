@@ -1,21 +1,22 @@
--- Laws of `any`, `cleared` and `standing`.
+-- Laws of `any`, `cleared`, `filled` and `standing`.
 -- Assumes nothing.
 use Prim.Native.Nat.{ℕ, zero, suc, _+_, _*_, _<_, _≤_}
 use mathlib.Core.Path.{_≡_, refl, sym, ap, _∙_, subst}
 use mathlib.Core.List.{List}
 use mathlib.Core.Bool.{Bool, true, false, cond, _||_, false≢true}
-use mathlib.Core.Logic.{_⊎_, ⊎-elim, by-cases}
+use mathlib.Core.Logic.{⊎-elim, by-cases}
 use native.Mathlib.Omega.{arith}
 use native.Mathlib.Decide.{ℕ-discrete}
 use native.Mathlib.Nat.{le-refl}
 use native.Mathlib.Numerals.{add-one}
 use lib.ListN.{length, getD, set, length-set}
 use lib.Seq.{getD-set-same, getD-set-other}
-use lib.Dec.{eqb}
+use lib.Dec.{eqb, ltb}
+use borrow.Author.Tests.{lt-ltb, le-ltb, ne-eqb}
 use Rattle.reach.specs.Reach.{Graph, thru}
 use Rattle.reach.proofs.Bools.{or-left, or-right, or-cases}
 use Rattle.reach.proofs.Reaching.{thru-cong}
-use Rattle.reach.specs.Standing.{any, trouble, leaning, standing, cleared, leansIn, losesIn}
+use Rattle.reach.specs.Standing.{any, trouble, leaning, standing, cleared, filled, leansIn, losesIn, standingIn}
 use Rattle.reach.specs.Bits.{at}
 
 pub any-intro : (n : ℕ) (p : ℕ → Bool) (j : ℕ) → j < n → p j ≡ true → any n p ≡ true
@@ -96,6 +97,33 @@ getD-cleared l (suc n) p j h k =
     (λ (e : j ≡ n). subst (λ (x : ℕ). getD (cleared l (suc n) p) x 0 ≡ cond (p x) 0 (getD l x 0)) (sym e) (cleared-here l n p k))
     (λ ne. getD-picked-other (p n) (cleared l n p) n j ne ∙ getD-cleared l n p j (omega arith) (omega arith))
 
+-- ---- filled
+pub length-filled : (l : List ℕ) (n : ℕ) (f : ℕ → ℕ) → length (filled l n f) ≡ length l
+unfolding filled
+length-filled l zero f = refl
+length-filled l (suc n) f = length-set (filled l n f) n (f n) ∙ length-filled l n f
+
+pub filled-none : (l : List ℕ) (f : ℕ → ℕ) → l ≡ filled l 0 f
+unfolding filled
+filled-none l f = refl
+
+pub filled-more : (l : List ℕ) (n : ℕ) (f : ℕ → ℕ) → set (filled l n f) n (f n) ≡ filled l (n + 1) f
+unfolding filled
+filled-more l n f = rw add-one refl
+
+pub filled-cong : (l : List ℕ) (n : ℕ) (f g : ℕ → ℕ) → ((j : ℕ) → j < n → f j ≡ g j) → filled l n f ≡ filled l n g
+unfolding filled
+filled-cong l zero f g e = refl
+filled-cong l (suc n) f g e = rw (filled-cong l n f g (λ j h. e j (omega arith)), e n (le-refl (suc n)))
+
+pub getD-filled : (l : List ℕ) (n : ℕ) (f : ℕ → ℕ) (j : ℕ) → j < n → n ≤ length l → getD (filled l n f) j 0 ≡ f j
+unfolding filled
+getD-filled l zero f j h k = absurd (omega arith)
+getD-filled l (suc n) f j h k =
+    by-cases (ℕ-discrete j n)
+    (λ (e : j ≡ n). subst (λ (x : ℕ). getD (set (filled l n f) n (f n)) x 0 ≡ f x) (sym e) (getD-set-same (filled l n f) n (f n) 0 (omega (arith, length-filled l n f))))
+    (λ ne. getD-set-other (filled l n f) n j (f n) 0 ne ∙ getD-filled l n f j (omega arith) (omega arith))
+
 -- ---- standing goes by the first n rows alone
 module _ (n : ℕ) (s t : ℕ → ℕ) (g h : Graph) (es : (i : ℕ) → i < n → s i ≡ t i) (eg : (r q : ℕ) → r < n → q < n → g r q ≡ h r q) where
   pub trouble-cong : (j : ℕ) → j < n → trouble n s g j ≡ trouble n t h j
@@ -110,7 +138,31 @@ module _ (n : ℕ) (s t : ℕ → ℕ) (g h : Graph) (es : (i : ℕ) → i < n �
   unfolding standing
   standing-cong i hi = rw (es i hi, thru-cong n g h eg n (le-refl n) i i hi hi, leaning-cong i hi)
 
+-- ---- the ways out of `standing_of`
+module _ (w : ℕ) (m states : List ℕ) (n i : ℕ) where
+  pub stands-unaccepted : getD states i 0 < 2 → getD states i 0 ≡ standingIn w m states n i
+  unfolding standingIn
+  stands-unaccepted h = rw (lt-ltb _ _ h)
+
+  module _ (h : 2 ≤ getD states i 0) {x : Bool} (ex : x ≡ at w m i i) where
+    pub stands-loop : x ≡ true → 2 ≡ standingIn w m states n i
+    unfolding standingIn
+    stands-loop l = rw (le-ltb _ _ h, sym ex ∙ l)
+
+    pub stands-leans : x ≡ false → {y : Bool} → y ≡ any n (leansIn w m states i) → y ≡ true → 3 ≡ standingIn w m states n i
+    unfolding standingIn
+    stands-leans l ey a = rw (le-ltb _ _ h, sym ex ∙ l, sym ey ∙ a)
+
+    pub stands-clean : x ≡ false → {y : Bool} → y ≡ any n (leansIn w m states i) → y ≡ false → 4 ≡ standingIn w m states n i
+    unfolding standingIn
+    stands-clean l ey a = rw (le-ltb _ _ h, sym ex ∙ l, sym ey ∙ a)
+
 -- ---- the same tests over the closed table
+by-state : (state x y : ℕ) → x ≡ y → cond (ltb state 2) state x ≡ cond (eqb state 0) 0 (cond (eqb state 1) 1 y)
+by-state zero x y e = refl
+by-state (suc zero) x y e = refl
+by-state (suc (suc state)) x y e = rw (le-ltb (suc (suc state)) 2 (omega arith), ne-eqb (suc (suc state)) 0 (omega arith), ne-eqb (suc (suc state)) 1 (omega arith)) e
+
 module _ (w n : ℕ) (refs m states : List ℕ) (le : n ≤ 32 * w) (e : (r s : ℕ) → r < n → s < 32 * w → at w m r s ≡ thru (at w refs) n r s) where
   pub loop-in : (i : ℕ) → i < n → at w m i i ≡ thru (at w refs) n i i
   loop-in i hi = e i i hi (omega arith)
@@ -121,3 +173,7 @@ module _ (w n : ℕ) (refs m states : List ℕ) (le : n ≤ 32 * w) (e : (r s : 
 
   pub loses-in : (i : ℕ) → i < n → (l : List ℕ) → cleared l n (losesIn w m i) ≡ cleared l n (λ j. eqb j i || thru (at w refs) n j i)
   loses-in i hi l = cleared-cong l n _ _ (λ j hj. rw (e j i hj (omega arith)))
+
+  pub standing-in : (i : ℕ) → i < n → standingIn w m states n i ≡ standing n (λ j. getD states j 0) (at w refs) i
+  unfolding standing standingIn
+  standing-in i hi = by-state (getD states i 0) _ _ (rw (loop-in i hi, leaning-in i hi))

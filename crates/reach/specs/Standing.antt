@@ -40,3 +40,13 @@ leansIn w m states i j = at w m i j && (ltb (getD states j 0) 2 || at w m j j)
 -- "Filing r unmarks r and every row that reaches r": row j, when row i is filed
 abbrev pub losesIn : ℕ → List ℕ → ℕ → ℕ → Bool
 losesIn w m i j = eqb j i || at w m j i
+
+-- the standing of row i among n, where m is a closed table
+unfoldable pub standingIn : ℕ → List ℕ → List ℕ → ℕ → ℕ → ℕ
+standingIn w m states n i =
+    cond (ltb (getD states i 0) 2) (getD states i 0) (cond (at w m i i) 2 (cond (any n (leansIn w m states i)) 3 4))
+
+-- l with f i at each index i below n
+unfoldable pub filled : List ℕ → ℕ → (ℕ → ℕ) → List ℕ
+filled l zero f = l
+filled l (suc n) f = set (filled l n f) n (f n)

@@ -2,7 +2,7 @@
 ghost use mathlib.Core.Path.{_≡_};
 ghost use mathlib.Core.Logic.{_⊎_};
 ghost use Prim.Native.Nat.{ℕ, _+_, _*_, _/_, _≤_, _<_};
-ghost use Rattle.reach.specs.Standing.{any, cleared, leansIn, losesIn};
+ghost use Rattle.reach.specs.Standing.{any, cleared, filled, leansIn, losesIn, standingIn};
 ghost use lib.ListN.{length, getD};
 ghost use Rattle.reach.specs.Reach.{thru};
 ghost use Rattle.reach.specs.Bits.{at, putBit, zeroed, emptied};
@@ -94,7 +94,7 @@ fn leans_on(m: &[u32], w: usize, states: &[u32], i: usize, j: usize) -> bool
 }
 
 // Row i reaches a row that is EMPTY, BAD or LOOP; m is a closed table.
-pub fn leans(m: &[u32], w: usize, states: &[u32], n: usize, i: usize) -> bool
+fn leans(m: &[u32], w: usize, states: &[u32], n: usize, i: usize) -> bool
     requires { ⌜ (n * w ≤ length (now m)) × (n ≤ 32 * w) × (n ≤ length (now states)) × (i < n) ⌝ }
     ensures { λ r. ⌜ r ≡ any n (leansIn w (now (m .entry)) (now (states .entry)) i) ⌝ }
 {
@@ -104,6 +104,34 @@ pub fn leans(m: &[u32], w: usize, states: &[u32], n: usize, i: usize) -> bool
         }
     }
     false
+}
+
+// The standing of row i among n; m is a closed table.
+pub fn standing_of(m: &[u32], w: usize, states: &[u32], n: usize, i: usize) -> u32
+    requires { ⌜ (n * w ≤ length (now m)) × (n ≤ 32 * w) × (n ≤ length (now states)) × (i < n) ⌝ }
+    ensures { λ r. ⌜ r ≡ standingIn w (now (m .entry)) (now (states .entry)) n i ⌝ }
+{
+    let state = states[i];
+    if state < 2 {
+        return state;
+    }
+    if get(m, w, i, i) {
+        return 2;
+    }
+    if leans(m, w, states, n, i) {
+        return 3;
+    }
+    4
+}
+
+// The standings of n rows, in their order; m is a closed table.
+pub fn standings_of(all: &mut [u32], m: &[u32], w: usize, states: &[u32], n: usize)
+    requires { ⌜ (n * w ≤ length (now m)) × (n ≤ 32 * w) × (n ≤ length (now states)) × (n ≤ length (now all)) ⌝ }
+    ensures { λ _. ⌜ now (all .exit) ≡ filled (now (all .entry)) n (standingIn w (now (m .entry)) (now (states .entry)) n) ⌝ }
+{
+    for i in 0..n {
+        all[i] = standing_of(m, w, states, n, i);
+    }
 }
 
 // Row j loses its mark when row i is filed; m is a closed table.

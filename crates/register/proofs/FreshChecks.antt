@@ -1,12 +1,12 @@
 -- The model's standings: what `standing` gives is the standing by chains of references, and a filing changes it only on rows that reach
 -- the filed one.
 -- Assumes nothing.
-use Prim.Native.Nat.{ℕ, zero, suc, _+_, _-_, _<_}
+use Prim.Native.Nat.{ℕ, zero, suc, _+_, _<_}
 use mathlib.Core.Path.{_≡_, refl, sym, ap, _∙_, subst}
 use mathlib.Core.List.{List}
 use mathlib.Core.Option.{Option, none, some}
 use mathlib.Core.Bool.{Bool, true, false, cond, _||_, _&&_, false≢true, true≢false}
-use mathlib.Core.Logic.{_⊎_, ⊎-elim, by-cases, _↔_}
+use mathlib.Core.Logic.{⊎-elim, by-cases, _↔_}
 use native.Mathlib.Omega.{arith}
 use native.Mathlib.Decide.{ℕ-discrete}
 use lib.Dec.{ltb, eqb}

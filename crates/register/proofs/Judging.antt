@@ -1,7 +1,7 @@
 -- The ways out of `judge_row`: with a record lent for each of 1,024 nodes the reader's outcome is the judge's, and the rows that the
 -- table's records name are those of the derivation.
 -- Assumes nothing.
-use Prim.Native.Nat.{ℕ, _+_, _*_, _/_, _≤_}
+use Prim.Native.Nat.{ℕ, _*_, _/_, _≤_}
 use native.Mathlib.Omega.{arith}
 use mathlib.Core.Path.{_≡_, refl, ap, _∙_}
 use mathlib.Core.List.{List, _++_}

@@ -1,5 +1,5 @@
 pub mod Gates
-pub mod StandingCases
+pub mod RowStandings
 pub mod Collects
 pub mod Judging
 pub mod Simulation

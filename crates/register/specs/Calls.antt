@@ -8,7 +8,7 @@ use lib.ListN.{set, getD, replicate}
 use lib.Dec.{ltb, eqb}
 use Rattle.reach.specs.Reach.{Graph, thru}
 use Rattle.reach.specs.Bits.{at}
-use Rattle.reach.specs.Standing.{standing, cleared}
+use Rattle.reach.specs.Standing.{standing, cleared, filled}
 use Rattle.grammar.specs.Limits.{maxRows}
 use Rattle.grammar.specs.Judge.{Out}
 use Rattle.register.specs.Size.{maxSize, words}
@@ -79,6 +79,10 @@ fileOf g row blob =
 
 abbrev pub standingOf : Register → ℕ → ℕ
 standingOf g i = standing (g .rows) (λ j. getD (g .states) j 0) (refers g) i
+
+-- the standings of all rows, in their order: 0 behind the last row, and for a size above 64 everywhere
+unfoldable pub standingsOf : Register → List ℕ
+standingsOf g = cond (ltb maxSize (g .rows)) (replicate maxSize 0) (filled (replicate maxSize 0) (g .rows) (standingOf g))
 
 -- row i with this mark
 abbrev pub marked : Register → (i mark : ℕ) → Register

@@ -8,7 +8,8 @@ ghost use Rattle.grammar.specs.Judge.{judge};
 ghost use Rattle.register.specs.Size.{maxSize, words};
 ghost use Rattle.register.specs.Outcome.{judged};
 ghost use Rattle.register.specs.Named.{namedBy};
-ghost use Rattle.register.specs.Calls.{blank, openOf, gate, findingOf, filed, fileOf, marksAfter, ackAt, ackOf, askAt, askOf, standingOf};
+ghost use Rattle.register.specs.Model.{ackCode};
+ghost use Rattle.register.specs.Calls.{blank, openOf, gate, findingOf, filed, fileOf, marksAfter, ackAt, ackOf, askAt, askOf, standingOf, standingsOf};
 use grammar::MAX_NODES;
 use grammar::MAX_ROWS;
 use number::token::Counts;
@@ -16,7 +17,7 @@ use number::token::Counts;
 mod named;
 
 // The most rows, and the words of 32 bits that hold a row's set of rows.
-const SIZE: usize = 64;
+pub const SIZE: usize = 64;
 
 const WORDS: usize = 2;
 
@@ -104,7 +105,7 @@ pub fn open(defs: u32, refs: u32, rows: usize) -> Changed
 }
 
 // 19, 16 or 0: the refusals that come first on any call but opening.
-fn admit(rows: usize, row: usize) -> u32
+pub fn admit(rows: usize, row: usize) -> u32
     ensures { λ r. ⌜ r ≡ gate rows row ⌝ }
 {
     if SIZE < rows {
@@ -133,24 +134,27 @@ fn standing_at(g: Register, i: usize) -> u32
     requires { ⌜ (g .rows ≤ maxSize) × (i < g .rows) ⌝ }
     ensures { λ r. ⌜ r ≡ standingOf g i ⌝ }
 {
-    let states = g.states;
-    let state = states[i];
-    if state == 0 {
-        return 0;
-    }
-    if state == 1 {
-        return 1;
-    }
     let n = g.rows;
     let names = g.names;
     let m = closed(names, n);
-    if reach::get(&m, WORDS, i, i) {
-        return 2;
+    let states = g.states;
+    reach::standing_of(&m, WORDS, &states, n, i)
+}
+
+// The standings of all rows, in their order, by one closure; 0 behind the last row, and for a size above 64 everywhere.
+pub fn standings(g: Register) -> [u32; SIZE]
+    ensures { λ r. ⌜ r ≡ standingsOf g ⌝ }
+{
+    let mut all = [0u32; SIZE];
+    let n = g.rows;
+    if SIZE < n {
+        return all;
     }
-    if reach::leans(&m, WORDS, &states, n, i) {
-        return 3;
-    }
-    4
+    let names = g.names;
+    let m = closed(names, n);
+    let states = g.states;
+    reach::standings_of(&mut all, &m, WORDS, &states, n);
+    all
 }
 
 // The marks after row i is filed.
@@ -228,35 +232,37 @@ pub fn file(g: Register, row: usize, blob: &[u8]) -> Changed
     Changed { code: 0, register }
 }
 
+// 17, 18 or 0: what acknowledging a row of this standing and mark answers.
+pub fn ack_code(standing: u32, mark: u32) -> u32
+    ensures { λ r. ⌜ r ≡ ackCode standing mark ⌝ }
+{
+    if standing == 0 {
+        return 17;
+    }
+    if standing == 4 {
+        return 17;
+    }
+    if mark == 0 {
+        return 0;
+    }
+    18
+}
+
 fn acknowledge_at(g: Register, i: usize) -> Changed
     requires { ⌜ (g .rows ≤ maxSize) × (i < g .rows) ⌝ }
     ensures { λ r. ⌜ r ≡ ackAt g i ⌝ }
 {
     let standing = standing_at(g, i);
-    if standing == 0 {
-        return Changed {
-            code: 17,
-            register: g,
-        };
-    }
-    if standing == 4 {
-        return Changed {
-            code: 17,
-            register: g,
-        };
-    }
     let mark = g.marks[i];
-    if mark == 0 {
-        let mut next = g;
-        next.marks[i] = 1;
-        return Changed {
-            code: 0,
-            register: next,
-        };
+    let code = ack_code(standing, mark);
+    if code != 0 {
+        return Changed { code, register: g };
     }
+    let mut next = g;
+    next.marks[i] = 1;
     Changed {
-        code: 18,
-        register: g,
+        code: 0,
+        register: next,
     }
 }
 

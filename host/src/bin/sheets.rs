@@ -1,49 +1,145 @@
-// Runs a deposit sheet by the model, or makes sheets with the text each should print, for another program to be held against.
+// Holds the panel program against the model: each sheet goes to the program, by a file or by its standard input, and its print has to be
+// the model's, byte for byte.
 
 use host::gen::{sheet, Rng};
 use host::sheet::run_sheet;
 use std::io::{self, Write};
-use std::path::Path;
-use std::process::ExitCode;
+use std::path::{Path, PathBuf};
+use std::process::{Command, ExitCode, Stdio};
+
+const SEED: u64 = 335;
+const RANDOM: usize = 3_000;
+const MOST_SHEET: usize = 65_536;
+const SAMPLE: [u8; 17] = [
+    0x02, 0x00, 0x00, 0x03, 0x04, 0x0F, 0x20, 0x0A, 0x08, 0x01, 0x10, 0x03, 0x20, 0x0E, 0x08, 0x01,
+    0x01,
+];
 
 fn main() -> ExitCode {
     let words: Vec<String> = std::env::args().skip(1).collect();
-    let words: Vec<&str> = words.iter().map(String::as_str).collect();
-    let done = match words[..] {
-        ["run", file] => run(Path::new(file)),
-        ["make", seed, number, dir] => match (seed.parse(), number.parse()) {
-            (Ok(seed), Ok(number)) => make(seed, number, Path::new(dir)),
-            _ => return usage(),
-        },
+    let (panel, seed) = match &words[..] {
+        [panel] => (panel, Some(SEED)),
+        [panel, seed] => (panel, seed.parse().ok()),
         _ => return usage(),
     };
-    match done {
-        Ok(()) => ExitCode::SUCCESS,
-        Err(error) => {
-            eprintln!("{error}");
-            ExitCode::FAILURE
-        }
+    let Some(seed) = seed else { return usage() };
+    let mut run = Run {
+        panel: PathBuf::from(panel),
+        file: std::env::temp_dir().join(format!("dawnclavier-{}.sheet", std::process::id())),
+        sheets: 0,
+        refused: 0,
+        differences: 0,
+    };
+    let done = run.all(seed);
+    std::fs::remove_file(&run.file).ok();
+    if let Err(error) = done {
+        eprintln!("{panel}: {error}");
+        return ExitCode::FAILURE;
+    }
+    let Run {
+        sheets,
+        refused,
+        differences,
+        ..
+    } = run;
+    println!("sheets: {sheets} run, {refused} of them refused, {differences} differences");
+    if differences == 0 && refused > 0 && refused < sheets {
+        ExitCode::SUCCESS
+    } else {
+        ExitCode::FAILURE
     }
 }
 
 fn usage() -> ExitCode {
-    eprintln!("usage: sheets run <sheet> | sheets make <seed> <number> <directory>");
+    eprintln!("usage: sheets <panel program> [seed]");
     ExitCode::from(2)
 }
 
-fn run(file: &Path) -> io::Result<()> {
-    let bytes = std::fs::read(file)?;
-    io::stdout().write_all(&run_sheet(&bytes))
+struct Run {
+    panel: PathBuf,
+    file: PathBuf,
+    sheets: u64,
+    refused: u64,
+    differences: u64,
 }
 
-/// Writes N.sheet and N.txt, what it should print, for each N.
-fn make(seed: u64, number: u32, dir: &Path) -> io::Result<()> {
-    let mut rng = Rng::new(seed);
-    std::fs::create_dir_all(dir)?;
-    for index in 0..number {
-        let bytes = sheet(&mut rng);
-        std::fs::write(dir.join(format!("{index}.sheet")), &bytes)?;
-        std::fs::write(dir.join(format!("{index}.txt")), run_sheet(&bytes))?;
+impl Run {
+    fn all(&mut self, seed: u64) -> io::Result<()> {
+        self.neighbours(&SAMPLE)?;
+        for sheet in edges() {
+            self.case(&sheet)?;
+        }
+        let mut rng = Rng::new(seed);
+        for _ in 0..RANDOM {
+            self.case(&sheet(&mut rng))?;
+        }
+        Ok(())
     }
-    Ok(())
+
+    /// A sheet, every cut of it, every change of one byte to some other values, and a byte more.
+    fn neighbours(&mut self, sheet: &[u8]) -> io::Result<()> {
+        for end in 0..=sheet.len() {
+            self.case(&sheet[..end])?;
+        }
+        for at in 0..sheet.len() {
+            for value in [0x00, 0x01, 0x02, 0x41, 0x7F, 0x80, 0xC0, 0xE0, 0xFF] {
+                let mut changed = sheet.to_vec();
+                changed[at] = value;
+                self.case(&changed)?;
+            }
+        }
+        self.case(&[sheet, &[0x00]].concat())
+    }
+
+    fn case(&mut self, sheet: &[u8]) -> io::Result<()> {
+        let expected = run_sheet(sheet);
+        let by_file = self.sheets % 2 == 0;
+        let printed = if by_file {
+            self.by_file(sheet)?
+        } else {
+            by_input(&self.panel, sheet)?
+        };
+        self.sheets += 1;
+        self.refused += u64::from(expected.starts_with(b"sheet refused"));
+        if printed != expected {
+            self.differences += 1;
+            if self.differences <= 5 {
+                println!("sheet {sheet:02X?}");
+                println!("printed  {}", String::from_utf8_lossy(&printed));
+                println!("expected {}", String::from_utf8_lossy(&expected));
+            }
+        }
+        Ok(())
+    }
+
+    fn by_file(&self, sheet: &[u8]) -> io::Result<Vec<u8>> {
+        std::fs::write(&self.file, sheet)?;
+        let output = Command::new(&self.panel).arg(&self.file).output()?;
+        Ok(output.stdout)
+    }
+}
+
+fn by_input(panel: &Path, sheet: &[u8]) -> io::Result<Vec<u8>> {
+    let mut child = Command::new(panel)
+        .stdin(Stdio::piped())
+        .stdout(Stdio::piped())
+        .spawn()?;
+    let mut input = child.stdin.take().expect("it is piped");
+    let bytes = sheet.to_vec();
+    // A sheet that is too long is not read to its end, so that the pipe may break.
+    let writer = std::thread::spawn(move || input.write_all(&bytes).ok());
+    let output = child.wait_with_output()?;
+    writer.join().expect("the writer does not panic");
+    Ok(output.stdout)
+}
+
+/// The longest sheets, one of them all presses, and one that is longer by far than any may be.
+fn edges() -> Vec<Vec<u8>> {
+    let mut presses = vec![0x02, 0x00, 0x00, 0x01, 0x01, 0x10, 0xC0, 0x00, 0xFF, 0xF6];
+    presses.resize(MOST_SHEET, 0x7F);
+    let one_more = [&presses[..], &[0x7F]].concat();
+    let mut rows = vec![0x02, 0x00, 0x00, 0x40];
+    rows.extend([0x03, 0x20, 0x06, 0x08].repeat(64));
+    rows.push(0x00);
+    vec![presses, one_more, rows, vec![0x02; 1_000_000]]
 }

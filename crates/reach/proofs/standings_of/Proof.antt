@@ -1,0 +1,34 @@
+-- `reach::standings_of` meets its contract. Assumes nothing.
+use borrow.Author.Needs.{needs}
+use mathlib.Core.Path.{_≡_, ap, _∙_, subst}
+use native.Mathlib.Omega.{arith}
+use Prim.Native.Nat.{ℕ, _≤_, _-_}
+use mathlib.Core.List.{List}
+use lib.ListN.{set, length}
+use denote.Ref.{now}
+use Rattle.reach.specs.Standing.{filled, standingIn}
+use Rattle.reach.proofs.Standings.{filled-none, filled-more, length-filled}
+use Rattle.reach.proofs.standings_of.Statement.{statement}
+use Rattle.reach.proofs.standings_of.Tie as tie
+
+abbrev Inv-loop : tie.InvT-loop
+Inv-loop all₀ m w states n i₀ all i = (i ≤ n) × (all ≡ filled all₀ i (standingIn w m states n))
+
+abbrev μ-loop : tie.MeasureT-loop
+μ-loop all₀ m w states n i₀ all i = n - i
+
+pub standings-of-spec : {M : Type 1} → statement M
+standings-of-spec =
+    tie.close
+    (tie.spec
+    Inv-loop
+    μ-loop
+    (λ c. (search needs, filled-none _ _))
+    (λ c κs. search needs)
+    (λ c. search needs)
+    (λ c. omega (arith, ap length (c .before .before .loop .inv .1) ∙ length-filled _ _ _))
+    (λ c. search needs)
+    (λ c. search needs)
+    (λ c. let a = c .before .before .before .before .before .before .args in (search needs, ap (λ (l : List ℕ). set l (c .before .before .loop .i) (c .standing-of .result)) (c .before .before .loop .inv .1) ∙ ap (set (filled (now (a .all)) (c .before .before .loop .i) (standingIn (a .w) (now (a .m)) (now (a .states)) (a .n))) (c .before .before .loop .i)) (c .standing-of .ensures) ∙ filled-more _ _ _))
+    (λ c. ap length (c .before .loop .inv .1) ∙ length-filled _ _ _)
+    (λ c. let a = c .before .before .before .before .before .args in let e : c .before .loop .i ≡ a .n = omega arith in subst (λ (k : ℕ). c .before .loop .all ≡ filled (now (a .all)) k (standingIn (a .w) (now (a .m)) (now (a .states)) (a .n))) e (c .before .loop .inv .1)))

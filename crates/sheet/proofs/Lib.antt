@@ -1,0 +1,10 @@
+pub mod Walks
+pub mod Items
+pub mod Laying
+pub mod Numerals
+pub mod Listed
+pub mod Pressing
+pub mod Fits
+pub mod Lengths
+pub mod Agreement
+pub mod Printed

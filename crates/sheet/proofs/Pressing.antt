@@ -1,0 +1,77 @@
+-- Laws of `pressCode`, `pressMarks` and `rowsBy`: the ways out of `press_code` and `press`, and the loop of `rows_to`.
+-- Assumes nothing.
+use Prim.Native.Nat.{ℕ, suc, _+_, _-_, _<_}
+use mathlib.Core.Path.{_≡_, refl, sym, _∙_, subst}
+use mathlib.Core.List.{List, [], _∷_}
+use native.Mathlib.Omega.{arith}
+use lib.ListN.{length, getD, set, length-set}
+use lib.Dec.{eqb}
+use mathlib.Core.Bool.{Bool, true, false, cond}
+use borrow.Author.Tests.{eq-eqb, ne-eqb, eqb-true}
+use Rattle.register.specs.Calls.{gate}
+use Rattle.register.specs.Model.{ackCode}
+use Rattle.register.proofs.Gates.{Admitted, gate-ok}
+use Rattle.register.specs.declared.Register.{Register}
+use Rattle.register.specs.declared.Asked.{Asked}
+use Rattle.sheet.specs.Lines.{rowLine}
+use Rattle.sheet.specs.Printing.{Prints}
+use Rattle.sheet.specs.Presses.{pressCode, pressMarks, pressesMarks, askedBy, rowsBy}
+use Rattle.sheet.proofs.Laying.{prints-none, prints-then}
+
+module _ (standings : List ℕ) (rows : ℕ) (marks : List ℕ) (row : ℕ) where
+  pub press-refused : {no : ℕ} → no ≡ gate rows row → (no ≡ 0 → ⊥) → no ≡ pressCode standings rows marks row
+  unfolding pressCode
+  press-refused e ne = rw (← e, ne-eqb _ _ ne)
+
+  pub press-admitted : {no : ℕ} → no ≡ gate rows row → no ≡ 0 → {code : ℕ} → code ≡ ackCode (getD standings (row - 1) 0) (getD marks (row - 1) 0)
+      → code ≡ pressCode standings rows marks row
+  unfolding pressCode
+  press-admitted e z ec = rw (← e, eq-eqb _ _ z) ec
+
+  code-cases : (b : Bool) (x : ℕ) → eqb (gate rows row) 0 ≡ b → cond b x (gate rows row) ≡ 0 → gate rows row ≡ 0
+  code-cases true x e h = eqb-true _ _ e
+  code-cases false x e h = h
+
+  -- a press that succeeds names a row of the register
+  pub press-in : {code : ℕ} → code ≡ pressCode standings rows marks row → code ≡ 0 → Admitted rows row
+  unfolding pressCode
+  press-in e z = gate-ok rows row (code-cases (eqb (gate rows row) 0) _ refl (sym e ∙ z))
+
+  pub marks-kept : {code : ℕ} → code ≡ pressCode standings rows marks row → (code ≡ 0 → ⊥) → marks ≡ pressMarks standings rows marks row
+  unfolding pressMarks
+  marks-kept e ne = rw (← e, ne-eqb _ _ ne)
+
+  pub marks-set : {code : ℕ} → code ≡ pressCode standings rows marks row → code ≡ 0 → set marks (row - 1) 1 ≡ pressMarks standings rows marks row
+  unfolding pressMarks
+  marks-set e z = rw (← e, eq-eqb _ _ z)
+
+  pub length-pressed : length (pressMarks standings rows marks row) ≡ length marks
+  unfolding pressMarks
+  length-pressed = picked (eqb (pressCode standings rows marks row) 0)
+    where
+      picked : (b : Bool) → length (cond b (set marks (row - 1) 1) marks) ≡ length marks
+      picked true = length-set marks (row - 1) 1
+      picked false = refl
+
+pub length-presses : (standings : List ℕ) (rows : ℕ) (marks acks : List ℕ) → length (pressesMarks standings rows marks acks) ≡ length marks
+unfolding pressesMarks
+length-presses standings rows marks [] = refl
+length-presses standings rows marks (row ∷ acks) =
+    length-presses standings rows (pressMarks standings rows marks row) acks ∙ length-pressed standings rows marks row
+
+-- ---- the lines of the rows
+module _ (g : Register) (standings marks : List ℕ) where
+  pub rows-none : (k i : ℕ) → k ≡ 0 → (to : ℕ) (out : List ℕ) → Prints (rowsBy g standings marks k i) to to out out
+  unfolding rowsBy
+  rows-none k i e to out = subst (λ j. Prints (rowsBy g standings marks j i) to to out out) (sym e) (prints-none to out)
+
+  pub rows-next : (n i : ℕ) → i < n → {a : Asked} → a ≡ askedBy g standings marks i → (to r q : ℕ) (old mid new : List ℕ) → Prints (rowLine (i + 1) a) to r old mid
+      → Prints (rowsBy g standings marks (n - (i + 1)) (i + 1)) r q mid new → Prints (rowsBy g standings marks (n - i) i) to q old new
+  unfolding rowsBy
+  rows-next n i h ea to r q old mid new p t =
+      let z : n - i ≡ suc (n - (i + 1)) = omega arith in
+      subst (λ j. Prints (rowsBy g standings marks j i) to q old new) (sym z)
+      (prints-then _ _ to r q old mid new (subst (λ a. Prints (rowLine (i + 1) a) to r old mid) ea p) t)
+
+  pub rows-all : (n to q : ℕ) (old new : List ℕ) → Prints (rowsBy g standings marks (n - 0) 0) to q old new → Prints (rowsBy g standings marks n 0) to q old new
+  rows-all n to q old new p = let z : n - 0 ≡ n = omega arith in subst (λ j. Prints (rowsBy g standings marks j 0) to q old new) z p

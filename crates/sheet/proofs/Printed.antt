@@ -1,0 +1,50 @@
+-- The ways out of `print` and `run_sheet`: an accepted sheet's print, by the register that its blobs make.
+-- Assumes nothing.
+use Prim.Native.Nat.{ℕ, _<_, _≤_, _^_}
+use mathlib.Core.Path.{_≡_, sym, ap, _∙_, subst}
+use mathlib.Core.List.{List, _++_}
+use lib.ListN.{length}
+use Rattle.reader.specs.declared.Answer.{Answer}
+use Rattle.register.specs.Size.{maxSize}
+use Rattle.register.specs.Calls.{standingsOf}
+use Rattle.register.specs.declared.Register.{Register}
+use Rattle.sheet.specs.Layout.{layoutOf, acksFrom}
+use Rattle.sheet.specs.Lines.{header}
+use Rattle.sheet.specs.Text.{registerOf, printed, acceptedText, textFor, textOf, Runs}
+use Rattle.sheet.specs.Printing.{greatest, further, laid}
+use Rattle.sheet.specs.Presses.{pressLines, pressesMarks, rowsBy, printedBy}
+use Rattle.sheet.specs.declared.layout.Layout.{Layout}
+use Rattle.sheet.specs.declared.layout.Parsed.{Parsed}
+use Rattle.sheet.proofs.Agreement.{register-rows, printed-agree}
+use Rattle.sheet.proofs.Fits.{runs-short, runs-fits}
+use Rattle.sheet.proofs.Lengths.{printed-length}
+
+pub rows-fit : (s : List ℕ) (l : Layout) {g : Register} → g ≡ registerOf s l → g .rows ≤ maxSize
+rows-fit s l e = subst (λ (y : Register). y .rows ≤ maxSize) (sym e) (register-rows s l)
+
+module _ (s : List ℕ) (l : Layout) {g : Register} (eg : g ≡ registerOf s l) {standings : List ℕ} (es : standings ≡ standingsOf g) (h : l .presses < 2 ^ 32)
+    {needed : ℕ} (en : needed ≡ further 0 (length (printedBy g standings (g .marks) (acksFrom (l .presses) s (l .acks))))) (out : List ℕ) where
+  by-register : printedBy g standings (g .marks) (acksFrom (l .presses) s (l .acks)) ≡ acceptedText s l
+  by-register =
+      ap (λ (y : List ℕ). printedBy g y (g .marks) (acksFrom (l .presses) s (l .acks))) es
+      ∙ sym (printed-agree g (rows-fit s l eg) (acksFrom (l .presses) s (l .acks)))
+      ∙ ap (λ (y : Register). printed y (acksFrom (l .presses) s (l .acks))) eg
+
+  bound : length (printedBy g standings (g .marks) (acksFrom (l .presses) s (l .acks))) ≤ greatest
+  bound = printed-length g (rows-fit s l eg) standings (g .marks) (l .presses) h s (l .acks)
+
+  pub print-short : length out < needed → Runs (acceptedText s l) (record { code = 15; place = needed }) out out
+  print-short k = subst (λ t. Runs t (record { code = 15; place = needed }) out out) by-register (runs-short _ bound en out k)
+
+  pub print-fits : needed ≤ length out → {marks : List ℕ} → marks ≡ pressesMarks standings (g .rows) (g .marks) (acksFrom (l .presses) s (l .acks))
+      → {new : List ℕ} → new ≡ laid out 0 (header ++ rowsBy g standings marks (g .rows) 0 ++ pressLines standings (g .rows) (g .marks) (acksFrom (l .presses) s (l .acks)))
+      → Runs (acceptedText s l) (record { code = 0; place = needed }) out new
+  unfolding printedBy
+  print-fits k em {new} e =
+      subst (λ t. Runs t (record { code = 0; place = needed }) out new) by-register
+      (runs-fits _ bound en out k
+      (e ∙ ap (λ m. laid out 0 (header ++ rowsBy g standings m (g .rows) 0 ++ pressLines standings (g .rows) (g .marks) (acksFrom (l .presses) s (l .acks)))) em))
+
+pub runs-layout : (s : List ℕ) {p q : Parsed} → p ≡ layoutOf s → p ≡ q → (r : Answer) (old new : List ℕ) → Runs (textFor s q) r old new → Runs (textOf s) r old new
+unfolding textOf
+runs-layout s ep eq r old new x = subst (λ y. Runs (textFor s y) r old new) (sym eq ∙ ep) x

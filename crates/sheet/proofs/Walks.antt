@@ -1,0 +1,69 @@
+-- Laws of `sections` and `items`, the ways through the two loops of `sections_of`: w is what the whole sheet gives.
+-- Assumes nothing.
+use Prim.Native.Nat.{ℕ, zero, suc, _+_, _-_, _<_, _≤_}
+use mathlib.Core.Path.{_≡_, sym, ap, _∙_, subst}
+use mathlib.Core.List.{List}
+use mathlib.Core.Bool.{cond}
+use native.Mathlib.Omega.{arith}
+use lib.ListN.{length}
+use borrow.Author.Tests.{lt-ltb, le-ltb}
+use Rattle.number.specs.declared.checked.Checked.{Checked}
+use Rattle.number.specs.declared.checked.Checked.the-variants.{Good, Bad}
+use Rattle.sheet.specs.Layout.{countOf, itemOf, follow, items, noted, sections}
+use Rattle.sheet.specs.declared.layout.Layout.{Layout}
+use Rattle.sheet.specs.declared.layout.Parsed.{Parsed}
+use Rattle.sheet.specs.declared.layout.Parsed.the-variants.{Refused, Accepted}
+
+module _ (s : List ℕ) {w : Parsed} where
+  pub all-read : (i at : ℕ) (l : Layout) → i ≡ 3 → length s ≤ at → sections (3 - i) i s at l ≡ w → Accepted l ≡ w
+  unfolding sections
+  all-read i at l e h x =
+      sym (ap (λ b. cond b (Refused at) (Accepted l)) (le-ltb at (length s) h)) ∙ (let z : 3 - i ≡ 0 = omega (arith, e) in subst (λ k. sections k i s at l ≡ w) z x)
+
+  pub left-over : (i at : ℕ) (l : Layout) → i ≡ 3 → at < length s → sections (3 - i) i s at l ≡ w → Refused at ≡ w
+  unfolding sections
+  left-over i at l e h x =
+      sym (ap (λ b. cond b (Refused at) (Accepted l)) (lt-ltb at (length s) h)) ∙ (let z : 3 - i ≡ 0 = omega (arith, e) in subst (λ k. sections k i s at l ≡ w) z x)
+
+  -- a section that begins at an offset, its count first
+  module _ (i at : ℕ) (l : Layout) (h : i ≤ 3) (ne : i ≡ 3 → ⊥) (x : sections (3 - i) i s at l ≡ w) where
+    step : follow (countOf i s at) at (λ count next. items (itemOf i s) count next (λ end. sections (2 - i) (i + 1) s end (noted i count next l))) ≡ w
+    unfolding sections
+    step = let z : 3 - i ≡ suc (2 - i) = omega (arith, ne) in subst (λ k. sections k i s at l ≡ w) z x
+
+    pub count-bad : {r : Checked} → r ≡ countOf i s at → {code : ℕ} → r ≡ Bad code → Refused at ≡ w
+    count-bad er e =
+        sym (ap (λ y. follow y at (λ count next. items (itemOf i s) count next (λ end. sections (2 - i) (i + 1) s end (noted i count next l)))) (sym er ∙ e)) ∙ step
+
+    pub count-good : {r : Checked} → r ≡ countOf i s at → {v next : ℕ} → r ≡ Good v next → {l′ : Layout} → l′ ≡ noted i v next l
+        → items (itemOf i s) v next (λ end. sections (2 - i) (i + 1) s end l′) ≡ w
+    count-good er {v} {next} e el =
+        ap (λ y. items (itemOf i s) v next (λ end. sections (2 - i) (i + 1) s end y)) el
+        ∙ sym (ap (λ y. follow y at (λ count next. items (itemOf i s) count next (λ end. sections (2 - i) (i + 1) s end (noted i count next l)))) (sym er ∙ e)) ∙ step
+
+  -- so many items from an offset on
+  module _ (i at : ℕ) (then : ℕ → Parsed) where
+    pub item-bad : (left : ℕ) → 0 < left → items (itemOf i s) left at then ≡ w
+        → {r : Checked} → r ≡ itemOf i s at → {code : ℕ} → r ≡ Bad code → Refused at ≡ w
+    unfolding items
+    item-bad zero h x er e = absurd (omega arith)
+    item-bad (suc k) h x er e = sym (ap (λ y. follow y at (λ v next. items (itemOf i s) k next then)) (sym er ∙ e)) ∙ x
+
+    pub item-good : (left : ℕ) → 0 < left → items (itemOf i s) left at then ≡ w
+        → {r : Checked} → r ≡ itemOf i s at → {v next : ℕ} → r ≡ Good v next → items (itemOf i s) (left - 1) next then ≡ w
+    unfolding items
+    item-good zero h x er e = absurd (omega arith)
+    item-good (suc k) h x er {v} {next} e =
+        let z : k ≡ suc k - 1 = omega arith in
+        subst (λ j. items (itemOf i s) j next then ≡ w) z (sym (ap (λ y. follow y at (λ v next. items (itemOf i s) k next then)) (sym er ∙ e)) ∙ x)
+
+    items-read : (left : ℕ) → left ≤ 0 → items (itemOf i s) left at then ≡ w → then at ≡ w
+    unfolding items
+    items-read zero h x = x
+    items-read (suc k) h x = absurd (omega arith)
+
+  pub section-read : (i at left : ℕ) (l : Layout) → left ≤ 0 → items (itemOf i s) left at (λ end. sections (2 - i) (i + 1) s end l) ≡ w
+      → sections (3 - (i + 1)) (i + 1) s at l ≡ w
+  section-read i at left l h x =
+      let z : 2 - i ≡ 3 - (i + 1) = omega arith in
+      subst (λ k. sections k (i + 1) s at l ≡ w) z (items-read i at (λ end. sections (2 - i) (i + 1) s end l) left h x)

@@ -1,0 +1,26 @@
+-- `sheet::layout::note` meets its contract. Assumes nothing.
+use borrow.Author.Tests.{eq-eqb, ne-eqb}
+use native.Mathlib.Omega.{arith}
+use Rattle.sheet.specs.Layout.{noted}
+use Rattle.sheet.proofs.layout.note.Statement.{statement}
+use Rattle.sheet.proofs.layout.note.Tie as tie
+
+returns : tie.Need-returns
+unfolding noted
+returns c = rw (eq-eqb _ _ (c .match .keys1))
+
+returns-2 : tie.Need-returns-2
+unfolding noted
+returns-2 c = rw (ne-eqb (c .before .args .section) 0 (omega (arith, c .match .keys2)), eq-eqb _ _ (c .match .keys2))
+
+returns-3 : tie.Need-returns-3
+unfolding noted
+returns-3 c = rw (ne-eqb _ _ (c .match .rest .0 .1), ne-eqb _ _ (c .match .rest .1))
+
+pub note-spec : {M : Type 1} → statement M
+note-spec =
+    tie.close
+    (tie.spec
+    returns
+    returns-2
+    returns-3)

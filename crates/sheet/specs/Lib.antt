@@ -1,0 +1,5 @@
+pub mod Layout
+pub mod Lines
+pub mod Text
+pub mod Printing
+pub mod Presses

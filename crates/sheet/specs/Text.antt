@@ -1,0 +1,67 @@
+-- Document 01, "Deposit sheet": what a sheet prints. "The program files and acknowledges in that order, then prints all rows, then `ack`, row
+-- and answer for each press".
+use Prim.Native.Nat.{ℕ, zero, suc, _+_}
+use mathlib.Core.Path.{_≡_}
+use mathlib.Core.List.{List, [], _∷_, _++_}
+use mathlib.Core.Bool.{cond}
+use lib.ListN.{length, drop}
+use lib.Dec.{ltb}
+use Rattle.reader.specs.declared.Answer.{Answer}
+use Rattle.register.specs.declared.Register.{Register}
+use Rattle.register.specs.Calls.{openOf, fileOf, ackOf, askOf}
+use Rattle.sheet.specs.declared.layout.Layout.{Layout}
+use Rattle.sheet.specs.declared.layout.Parsed.{Parsed}
+use Rattle.sheet.specs.declared.layout.Parsed.the-variants.{Refused, Accepted}
+use Rattle.sheet.specs.Layout.{layoutOf, defsOf, refsOf, blobsFrom, acksFrom}
+use Rattle.sheet.specs.Lines.{header, rowLine, ackLine, refusalLine}
+
+-- the blobs filed, from this row on
+unfoldable pub filedAll : Register → ℕ → List (List ℕ) → Register
+filedAll g row [] = g
+filedAll g row (blob ∷ blobs) = filedAll (fileOf g row blob .register) (row + 1) blobs
+
+-- the rows acknowledged
+unfoldable pub ackedAll : Register → List ℕ → Register
+ackedAll g [] = g
+ackedAll g (row ∷ rows) = ackedAll (ackOf g row .register) rows
+
+-- k rows from this one on, as they are asked
+unfoldable pub rowLines : Register → (k row : ℕ) → List ℕ
+rowLines g zero row = []
+rowLines g (suc k) row = rowLine row (askOf g row) ++ rowLines g k (row + 1)
+
+-- each press with its answer
+unfoldable pub ackLines : Register → List ℕ → List ℕ
+ackLines g [] = []
+ackLines g (row ∷ rows) = ackLine row (ackOf g row .code) ++ ackLines (ackOf g row .register) rows
+
+-- the register of an accepted sheet, all blobs filed
+unfoldable pub registerOf : List ℕ → Layout → Register
+registerOf s l = filedAll (openOf (defsOf s l) (refsOf s l) (l .rows) .register) 1 (blobsFrom (l .rows) s (l .blobs))
+
+-- the print of a register with all blobs filed, before the presses
+unfoldable pub printed : Register → List ℕ → List ℕ
+printed g acks = header ++ rowLines (ackedAll g acks) (g .rows) 1 ++ ackLines g acks
+
+abbrev pub acceptedText : List ℕ → Layout → List ℕ
+acceptedText s l = printed (registerOf s l) (acksFrom (l .presses) s (l .acks))
+
+abbrev pub textFor : List ℕ → Parsed → List ℕ
+textFor s (Refused place) = refusalLine place
+textFor s (Accepted l) = acceptedText s l
+
+-- the text that a sheet prints
+unfoldable pub textOf : List ℕ → List ℕ
+textOf s = textFor s (layoutOf s)
+
+-- 15 "output too short", with the bytes needed; else 0 with the bytes written
+unfoldable pub answered : List ℕ → (room : ℕ) → Answer
+answered text room = cond (ltb room (length text)) (record { code = 15; place = length text }) (record { code = 0; place = length text })
+
+-- the output lent, afterwards: "Any refusal keeps .. output .. unchanged; success changes only the .. bytes used"
+unfoldable pub outputOf : List ℕ → List ℕ → List ℕ
+outputOf text out = cond (ltb (length out) (length text)) out (text ++ drop (length text) out)
+
+-- a text is printed where it fits
+abbrev pub Runs : List ℕ → Answer → (old new : List ℕ) → Type 0
+Runs text r old new = (r ≡ answered text (length old)) × (new ≡ outputOf text old)

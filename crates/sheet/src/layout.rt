@@ -1,0 +1,149 @@
+// The sections of a deposit sheet: whether it is one, and where its items stand.
+ghost use mathlib.Core.Path.{_≡_};
+ghost use Prim.Native.Nat.{_≤_};
+ghost use lib.ListN.{length};
+ghost use Rattle.sheet.specs.Layout.{countOf, blobAt, itemOf, noted, noLayout, sections, layoutOf};
+use grammar::MAX_ROWS;
+use number::checked::Checked;
+use register::SIZE;
+
+const MAX_SHEET: usize = 65536;
+
+const SECTIONS: usize = 3;
+
+// Where the items of each section begin, how many blobs there are, which is the number of rows, and how many acknowledgements.
+pub struct Layout {
+    pub counts: usize,
+    pub blobs: usize,
+    pub rows: u32,
+    pub acks: usize,
+    pub presses: u32,
+}
+
+// A sheet's layout, or the place of its first fault.
+pub enum Parsed {
+    Refused(usize),
+    Accepted(Layout),
+}
+
+// The count of a section.
+fn section_count(s: &[u8], section: usize, at: usize) -> Checked
+    ensures { λ r. ⌜ r ≡ countOf section (now (s .entry)) at ⌝ }
+{
+    match section {
+        0 => number::checked::count_at(s, at, 2, 2),
+        1 => number::checked::count_at(s, at, 1, SIZE as u32),
+        _ => number::checked::checked_at(s, at),
+    }
+}
+
+// A blob: its length and the offset after it.
+pub fn blob_at(s: &[u8], at: usize) -> Checked
+    ensures { λ r. ⌜ r ≡ blobAt (now (s .entry)) at ⌝ }
+{
+    match number::checked::checked_at(s, at) {
+        Checked::Good { value, next } => {
+            let length = value as usize;
+            if s.len() < length {
+                return Checked::Bad { code: 2 };
+            }
+            if s.len() - length < next {
+                return Checked::Bad { code: 2 };
+            }
+            Checked::Good {
+                value,
+                next: next + length,
+            }
+        }
+        Checked::Bad { code } => Checked::Bad { code },
+    }
+}
+
+// An item of a section: its number and the offset after it.
+fn item_at(s: &[u8], section: usize, at: usize) -> Checked
+    ensures { λ r. ⌜ r ≡ itemOf section (now (s .entry)) at ⌝ }
+{
+    match section {
+        0 => number::checked::count_at(s, at, 0, MAX_ROWS),
+        1 => blob_at(s, at),
+        _ => number::checked::checked_at(s, at),
+    }
+}
+
+fn blank_layout() -> Layout
+    ensures { λ r. ⌜ r ≡ noLayout ⌝ }
+{
+    Layout {
+        counts: 0,
+        blobs: 0,
+        rows: 0,
+        acks: 0,
+        presses: 0,
+    }
+}
+
+// Notes where the items of a section begin, and how many there are.
+fn note(layout: Layout, section: usize, count: u32, next: usize) -> Layout
+    ensures { λ r. ⌜ r ≡ noted section count next layout ⌝ }
+{
+    let mut l = layout;
+    match section {
+        0 => {
+            l.counts = next;
+        }
+        1 => {
+            l.blobs = next;
+            l.rows = count;
+        }
+        _ => {
+            l.acks = next;
+            l.presses = count;
+        }
+    }
+    l
+}
+
+// Reads the sections in their order; the label leaves both loops with the place of the first fault.
+fn sections_of(s: &[u8]) -> Parsed
+    ensures { λ r. ⌜ r ≡ sections 3 0 (now (s .entry)) 0 noLayout ⌝ }
+{
+    let mut layout = blank_layout();
+    let mut at = 0;
+    let mut section = 0;
+    let place = 'sheet: loop {
+        if section == SECTIONS {
+            if at < s.len() {
+                break 'sheet at;
+            }
+            return Parsed::Accepted(layout);
+        }
+        let mut left = 0;
+        match section_count(s, section, at) {
+            Checked::Good { value, next } => {
+                left = value;
+                at = next;
+                layout = note(layout, section, value, next);
+            }
+            Checked::Bad { code: _ } => break 'sheet at,
+        }
+        while 0 < left {
+            match item_at(s, section, at) {
+                Checked::Good { value: _, next } => at = next,
+                Checked::Bad { code: _ } => break 'sheet at,
+            }
+            left -= 1;
+        }
+        section += 1;
+    };
+    Parsed::Refused(place)
+}
+
+// The layout of a sheet.
+pub fn layout_of(s: &[u8]) -> Parsed
+    ensures { λ r. ⌜ r ≡ layoutOf (now (s .entry)) ⌝ }
+{
+    if MAX_SHEET < s.len() {
+        return Parsed::Refused(MAX_SHEET);
+    }
+    sections_of(s)
+}
