@@ -17,11 +17,11 @@ use Rattle.register.specs.Outcome.{judged}
 use Rattle.register.specs.declared.Register.{Register}
 use Rattle.register.proofs.Gates.{gate-ok}
 use Rattle.register.proofs.RowStandings.{standings-at}
-use Rattle.sheet.specs.Layout.{blobsFrom, defsOf, refsOf}
+use Rattle.layout.specs.Layout.{blobsFrom, defsOf, refsOf}
 use Rattle.sheet.specs.Lines.{header}
 use Rattle.sheet.specs.Text.{filedAll, ackedAll, rowLines, ackLines, registerOf, printed}
 use Rattle.sheet.specs.Presses.{pressCode, pressMarks, pressLines, pressesMarks, askedBy, rowsBy, printedBy}
-use Rattle.sheet.specs.declared.layout.Layout.{Layout}
+use Rattle.layout.specs.declared.Layout.{Layout}
 
 -- ---- the number of rows
 open-rows : (defs refs rows : ℕ) → openOf defs refs rows .register .rows ≤ maxSize

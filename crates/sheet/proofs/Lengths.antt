@@ -13,7 +13,7 @@ use Rattle.number.specs.declared.checked.Checked.the-variants.{Good, Bad}
 use Rattle.register.specs.Size.{maxSize}
 use Rattle.register.specs.declared.Register.{Register}
 use Rattle.register.specs.declared.Asked.{Asked}
-use Rattle.sheet.specs.Layout.{more, acksFrom}
+use Rattle.layout.specs.Layout.{more, acksFrom}
 use Rattle.sheet.specs.Lines.{numeral, decimal, field, newline, header, standingName, rowLine, ackLine, refusalLine}
 use Rattle.sheet.specs.Printing.{greatest}
 use Rattle.sheet.specs.Presses.{pressCode, pressMarks, pressLines, pressesMarks, askedBy, rowsBy, printedBy}

@@ -1,5 +1,3 @@
-pub mod Walks
-pub mod Items
 pub mod Laying
 pub mod Numerals
 pub mod Listed

@@ -14,8 +14,8 @@ use Rattle.number.specs.declared.checked.Checked.the-variants.{Good, Bad}
 use Rattle.register.specs.Calls.{openOf, fileOf}
 use Rattle.register.specs.declared.Register.{Register}
 use Rattle.register.specs.declared.Changed.{Changed}
-use Rattle.sheet.specs.Layout.{more, blobOf, blobAt, valueOf, nextOf, defsOf, refsOf, blobsFrom, acksFrom}
-use Rattle.sheet.specs.declared.layout.Layout.{Layout}
+use Rattle.layout.specs.Layout.{more, blobOf, blobAt, valueOf, nextOf, defsOf, refsOf, blobsFrom, acksFrom}
+use Rattle.layout.specs.declared.Layout.{Layout}
 use Rattle.sheet.specs.Text.{filedAll, registerOf}
 use Rattle.sheet.specs.Lines.{ackLine}
 use Rattle.sheet.specs.Printing.{Prints}

@@ -8,13 +8,13 @@ use Rattle.reader.specs.declared.Answer.{Answer}
 use Rattle.register.specs.Size.{maxSize}
 use Rattle.register.specs.Calls.{standingsOf}
 use Rattle.register.specs.declared.Register.{Register}
-use Rattle.sheet.specs.Layout.{layoutOf, acksFrom}
+use Rattle.layout.specs.Layout.{layoutOf, acksFrom}
 use Rattle.sheet.specs.Lines.{header}
 use Rattle.sheet.specs.Text.{registerOf, printed, acceptedText, textFor, textOf, Runs}
 use Rattle.sheet.specs.Printing.{greatest, further, laid}
 use Rattle.sheet.specs.Presses.{pressLines, pressesMarks, rowsBy, printedBy}
-use Rattle.sheet.specs.declared.layout.Layout.{Layout}
-use Rattle.sheet.specs.declared.layout.Parsed.{Parsed}
+use Rattle.layout.specs.declared.Layout.{Layout}
+use Rattle.layout.specs.declared.Parsed.{Parsed}
 use Rattle.sheet.proofs.Agreement.{register-rows, printed-agree}
 use Rattle.sheet.proofs.Fits.{runs-short, runs-fits}
 use Rattle.sheet.proofs.Lengths.{printed-length}

@@ -1,4 +1,3 @@
-pub mod Layout
 pub mod Lines
 pub mod Text
 pub mod Printing

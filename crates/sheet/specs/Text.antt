@@ -9,10 +9,10 @@ use lib.Dec.{ltb}
 use Rattle.reader.specs.declared.Answer.{Answer}
 use Rattle.register.specs.declared.Register.{Register}
 use Rattle.register.specs.Calls.{openOf, fileOf, ackOf, askOf}
-use Rattle.sheet.specs.declared.layout.Layout.{Layout}
-use Rattle.sheet.specs.declared.layout.Parsed.{Parsed}
-use Rattle.sheet.specs.declared.layout.Parsed.the-variants.{Refused, Accepted}
-use Rattle.sheet.specs.Layout.{layoutOf, defsOf, refsOf, blobsFrom, acksFrom}
+use Rattle.layout.specs.declared.Layout.{Layout}
+use Rattle.layout.specs.declared.Parsed.{Parsed}
+use Rattle.layout.specs.declared.Parsed.the-variants.{Refused, Accepted}
+use Rattle.layout.specs.Layout.{layoutOf, defsOf, refsOf, blobsFrom, acksFrom}
 use Rattle.sheet.specs.Lines.{header, rowLine, ackLine, refusalLine}
 
 -- the blobs filed, from this row on

@@ -1,11 +1,11 @@
 // The register of an accepted sheet: opened with the sheet's counts, all blobs filed.
 ghost use mathlib.Core.Path.{_≡_};
 ghost use Rattle.number.specs.Checked.{checkedAt};
-ghost use Rattle.sheet.specs.Layout.{defsOf, refsOf, blobsFrom};
-ghost use Rattle.sheet.specs.Layout.{valueOf as Layout·valueOf, nextOf as Layout·nextOf};
+ghost use Rattle.layout.specs.Layout.{defsOf, refsOf, blobsFrom};
+ghost use Rattle.layout.specs.Layout.{valueOf as Layout·valueOf, nextOf as Layout·nextOf};
 ghost use Rattle.sheet.specs.Text.{filedAll, registerOf};
-use crate::layout::Layout;
-use crate::layout::blob_at;
+use layout::Layout;
+use layout::blob_at;
 use number::checked::Checked;
 use register::Register;
 

@@ -4,7 +4,7 @@ ghost use Prim.Native.Nat.{_≤_, _<_};
 ghost use mathlib.Core.List.{_++_};
 ghost use lib.ListN.{length};
 ghost use Rattle.register.specs.Size.{maxSize};
-ghost use Rattle.sheet.specs.Layout.{acksFrom};
+ghost use Rattle.layout.specs.Layout.{acksFrom};
 ghost use Rattle.sheet.specs.Lines.{header, refusalLine};
 ghost use Rattle.sheet.specs.Text.{acceptedText, textOf, answered, outputOf, Runs};
 ghost use Rattle.sheet.specs.Printing.{further, laid, Prints};
@@ -16,7 +16,6 @@ use register::Asked;
 use register::Register;
 
 mod filing;
-mod layout;
 mod presses;
 mod text;
 

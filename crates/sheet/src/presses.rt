@@ -3,7 +3,7 @@ ghost use mathlib.Core.Path.{_≡_};
 ghost use Prim.Native.Nat.{_≤_};
 ghost use lib.ListN.{length};
 ghost use Rattle.register.specs.Size.{maxSize};
-ghost use Rattle.sheet.specs.Layout.{acksFrom};
+ghost use Rattle.layout.specs.Layout.{acksFrom};
 ghost use Rattle.sheet.specs.Presses.{pressCode, pressMarks, pressLines, pressesMarks};
 ghost use Rattle.sheet.specs.Printing.{Prints};
 use crate::text::ack_to;

@@ -3,7 +3,7 @@ use borrow.Author.Needs.{needs}
 use mathlib.Core.Path.{_≡_, refl}
 use native.Mathlib.Omega.{arith}
 use Prim.Native.Nat.{_+_, _≤_}
-use Rattle.sheet.specs.Layout.{blobsFrom}
+use Rattle.layout.specs.Layout.{blobsFrom}
 use Rattle.sheet.specs.Text.{filedAll}
 use Rattle.sheet.proofs.Listed.{blobs-none, blobs-cut, blobs-next, blob-within, filed-none, filed-next}
 use Rattle.sheet.proofs.filing.file_all.Statement.{statement}

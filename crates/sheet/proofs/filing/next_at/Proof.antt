@@ -2,7 +2,7 @@
 use borrow.Author.Needs.{needs}
 use mathlib.Core.Path.{sym, ap, _∙_}
 use Rattle.number.specs.declared.checked.Checked.{Checked}
-use Rattle.sheet.specs.Layout.{nextOf}
+use Rattle.layout.specs.Layout.{nextOf}
 use Rattle.sheet.proofs.filing.next_at.Statement.{statement}
 use Rattle.sheet.proofs.filing.next_at.Tie as tie
 

@@ -1,7 +1,7 @@
 -- `sheet::filing::value_at` meets its contract. Assumes nothing.
 use borrow.Author.Needs.{needs}
 use mathlib.Core.Path.{sym, ap, _∙_}
-use Rattle.sheet.specs.Layout.{valueOf}
+use Rattle.layout.specs.Layout.{valueOf}
 use Rattle.sheet.proofs.filing.value_at.Statement.{statement}
 use Rattle.sheet.proofs.filing.value_at.Tie as tie
 

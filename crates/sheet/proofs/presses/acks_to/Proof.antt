@@ -5,7 +5,7 @@ use native.Mathlib.Omega.{arith}
 use Prim.Native.Nat.{ℕ}
 use mathlib.Core.List.{List}
 use lib.ListN.{length}
-use Rattle.sheet.specs.Layout.{acksFrom}
+use Rattle.layout.specs.Layout.{acksFrom}
 use Rattle.sheet.specs.Presses.{pressLines, pressesMarks}
 use Rattle.sheet.specs.Printing.{Prints}
 use Rattle.sheet.proofs.Pressing.{length-pressed}

@@ -1,8 +1,8 @@
--- `sheet::layout::item_at` meets its contract. Assumes nothing.
+-- `layout::item_at` meets its contract. Assumes nothing.
 use borrow.Author.Needs.{needs}
-use Rattle.sheet.proofs.Items.{first-item, blob-item, ack-item}
-use Rattle.sheet.proofs.layout.item_at.Statement.{statement}
-use Rattle.sheet.proofs.layout.item_at.Tie as tie
+use Rattle.layout.proofs.Items.{first-item, blob-item, ack-item}
+use Rattle.layout.proofs.item_at.Statement.{statement}
+use Rattle.layout.proofs.item_at.Tie as tie
 
 pub item-at-spec : {M : Type 1} → statement M
 item-at-spec =

@@ -2,7 +2,7 @@
 ghost use mathlib.Core.Path.{_≡_};
 ghost use Prim.Native.Nat.{_≤_};
 ghost use lib.ListN.{length};
-ghost use Rattle.sheet.specs.Layout.{countOf, blobAt, itemOf, noted, noLayout, sections, layoutOf};
+ghost use Rattle.layout.specs.Layout.{countOf, blobAt, itemOf, noted, noLayout, sections, layoutOf};
 use grammar::MAX_ROWS;
 use number::checked::Checked;
 use register::SIZE;

@@ -9,10 +9,10 @@ use lib.ListN.{length}
 use borrow.Author.Tests.{lt-ltb, le-ltb}
 use Rattle.number.specs.declared.checked.Checked.{Checked}
 use Rattle.number.specs.declared.checked.Checked.the-variants.{Good, Bad}
-use Rattle.sheet.specs.Layout.{countOf, itemOf, follow, items, noted, sections}
-use Rattle.sheet.specs.declared.layout.Layout.{Layout}
-use Rattle.sheet.specs.declared.layout.Parsed.{Parsed}
-use Rattle.sheet.specs.declared.layout.Parsed.the-variants.{Refused, Accepted}
+use Rattle.layout.specs.Layout.{countOf, itemOf, follow, items, noted, sections}
+use Rattle.layout.specs.declared.Layout.{Layout}
+use Rattle.layout.specs.declared.Parsed.{Parsed}
+use Rattle.layout.specs.declared.Parsed.the-variants.{Refused, Accepted}
 
 module _ (s : List ℕ) {w : Parsed} where
   pub all-read : (i at : ℕ) (l : Layout) → i ≡ 3 → length s ≤ at → sections (3 - i) i s at l ≡ w → Accepted l ≡ w

@@ -10,9 +10,9 @@ use Rattle.number.specs.declared.checked.Checked.{Checked}
 use Rattle.number.specs.declared.checked.Checked.the-variants.{Good, Bad}
 use Rattle.grammar.specs.Limits.{maxRows}
 use Rattle.register.specs.Size.{maxSize}
-use Rattle.sheet.specs.declared.layout.Layout.{Layout}
-use Rattle.sheet.specs.declared.layout.Parsed.{Parsed}
-use Rattle.sheet.specs.declared.layout.Parsed.the-variants.{Refused, Accepted}
+use Rattle.layout.specs.declared.Layout.{Layout}
+use Rattle.layout.specs.declared.Parsed.{Parsed}
+use Rattle.layout.specs.declared.Parsed.the-variants.{Refused, Accepted}
 
 -- "Sheets over 65,536 bytes"
 abbrev pub maxSheet : ℕ

@@ -1,8 +1,8 @@
--- `sheet::layout::section_count` meets its contract. Assumes nothing.
+-- `layout::section_count` meets its contract. Assumes nothing.
 use borrow.Author.Needs.{needs}
-use Rattle.sheet.proofs.Items.{first-count, blob-count, ack-count}
-use Rattle.sheet.proofs.layout.section_count.Statement.{statement}
-use Rattle.sheet.proofs.layout.section_count.Tie as tie
+use Rattle.layout.proofs.Items.{first-count, blob-count, ack-count}
+use Rattle.layout.proofs.section_count.Statement.{statement}
+use Rattle.layout.proofs.section_count.Tie as tie
 
 pub section-count-spec : {M : Type 1} → statement M
 section-count-spec =

@@ -1,9 +1,9 @@
--- `sheet::layout::note` meets its contract. Assumes nothing.
+-- `layout::note` meets its contract. Assumes nothing.
 use borrow.Author.Tests.{eq-eqb, ne-eqb}
 use native.Mathlib.Omega.{arith}
-use Rattle.sheet.specs.Layout.{noted}
-use Rattle.sheet.proofs.layout.note.Statement.{statement}
-use Rattle.sheet.proofs.layout.note.Tie as tie
+use Rattle.layout.specs.Layout.{noted}
+use Rattle.layout.proofs.note.Statement.{statement}
+use Rattle.layout.proofs.note.Tie as tie
 
 returns : tie.Need-returns
 unfolding noted

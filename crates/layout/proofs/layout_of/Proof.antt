@@ -1,9 +1,9 @@
--- `sheet::layout::layout_of` meets its contract. Assumes nothing.
+-- `layout::layout_of` meets its contract. Assumes nothing.
 use borrow.Author.Needs.{needs}
 use borrow.Author.Tests.{lt-ltb, le-ltb}
-use Rattle.sheet.specs.Layout.{layoutOf}
-use Rattle.sheet.proofs.layout.layout_of.Statement.{statement}
-use Rattle.sheet.proofs.layout.layout_of.Tie as tie
+use Rattle.layout.specs.Layout.{layoutOf}
+use Rattle.layout.proofs.layout_of.Statement.{statement}
+use Rattle.layout.proofs.layout_of.Tie as tie
 
 returns : tie.Need-returns
 unfolding layoutOf

@@ -1,14 +1,14 @@
--- `sheet::layout::sections_of` meets its contract: two loops left by a label. Assumes nothing.
+-- `layout::sections_of` meets its contract: two loops left by a label. Assumes nothing.
 use borrow.Author.Needs.{needs}
 use mathlib.Core.Path.{_≡_, ap}
 use native.Mathlib.Omega.{arith}
 use Prim.Native.Nat.{_+_, _-_, _≤_}
 use denote.Ref.{now}
-use Rattle.sheet.specs.Layout.{itemOf, items, noLayout, sections}
-use Rattle.sheet.specs.declared.layout.Layout.{Layout}
-use Rattle.sheet.proofs.Walks.{all-read, left-over, count-bad, count-good, item-bad, item-good, section-read}
-use Rattle.sheet.proofs.layout.sections_of.Statement.{statement}
-use Rattle.sheet.proofs.layout.sections_of.Tie as tie
+use Rattle.layout.specs.Layout.{itemOf, items, noLayout, sections}
+use Rattle.layout.specs.declared.Layout.{Layout}
+use Rattle.layout.proofs.Walks.{all-read, left-over, count-bad, count-good, item-bad, item-good, section-read}
+use Rattle.layout.proofs.sections_of.Statement.{statement}
+use Rattle.layout.proofs.sections_of.Tie as tie
 
 abbrev Inv-loop : tie.InvT-loop
 Inv-loop s layout at₀ section left₀ at left = items (itemOf section s) left at (λ end. sections (2 - section) (section + 1) s end layout) ≡ sections 3 0 s 0 noLayout

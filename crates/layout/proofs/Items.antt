@@ -11,7 +11,7 @@ use Rattle.number.specs.declared.checked.Checked.{Checked}
 use Rattle.number.specs.declared.checked.Checked.the-variants.{Good, Bad}
 use Rattle.grammar.specs.Limits.{maxRows}
 use Rattle.register.specs.Size.{maxSize}
-use Rattle.sheet.specs.Layout.{countOf, blobOf, blobAt, itemOf}
+use Rattle.layout.specs.Layout.{countOf, blobOf, blobAt, itemOf}
 
 -- ---- a blob
 module _ (s : List ℕ) (at : ℕ) {r : Checked} (er : r ≡ checkedAt s at) where

@@ -1,9 +1,9 @@
--- `sheet::layout::blob_at` meets its contract. Assumes nothing.
+-- `layout::blob_at` meets its contract. Assumes nothing.
 use borrow.Author.Needs.{needs}
 use native.Mathlib.Omega.{arith}
-use Rattle.sheet.proofs.Items.{blob-cut, blob-there, blob-bad}
-use Rattle.sheet.proofs.layout.blob_at.Statement.{statement}
-use Rattle.sheet.proofs.layout.blob_at.Tie as tie
+use Rattle.layout.proofs.Items.{blob-cut, blob-there, blob-bad}
+use Rattle.layout.proofs.blob_at.Statement.{statement}
+use Rattle.layout.proofs.blob_at.Tie as tie
 
 pub blob-at-spec : {M : Type 1} → statement M
 blob-at-spec =
