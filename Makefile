@@ -25,13 +25,20 @@ host-test:
 	    cargo test --quiet --release --offline --features archive; \
 	    cargo run --quiet --release --offline --features archive --bin differential; \
 	    cargo run --quiet --release --offline --bin sheets -- ../target/bin/panel; \
+	    cargo build --quiet --release --offline --features archive --bin memory; \
+	    if command -v valgrind >/dev/null; then valgrind --quiet --error-exitcode=9 target/release/memory; \
+	    else echo 'memory run skipped: valgrind is not here'; fi; \
 	else echo 'host tests skipped: cargo or cc is not here'; fi
 
-# What the proofs cost: lines and check time of each crate. Then the archive's time over the independent implementation's, in one run.
+# What the proofs cost: lines and check time of each crate. Then the archive's and the programs' time over the independent implementation's, in one
+# run: docs/BENCH.md and its plot.
 bench:
 	@tools/measure
+	@rt check timed panel >target/bench.log 2>&1 || { cat target/bench.log; exit 1; }
 	@rt staticlib host >target/staticlib.log 2>&1 || { cat target/staticlib.log; exit 1; }
-	@cd host && cargo run --quiet --release --offline --features archive --bin bench -- ../target/bench.md
+	@cd host && cargo run --quiet --release --offline --features archive --bin bench -- ../target/bench.md ../target/bench.csv ../target/bin
+	@tools/plot target/bench.csv docs/bench.svg
+	@{ sed '/^## Last run/q' docs/BENCH.md; echo; cat target/bench.md; } >target/BENCH.md && mv target/BENCH.md docs/BENCH.md
 
 clean:
 	rm -rf target host/target

@@ -1,4 +1,5 @@
-// How fast the archive reads, side by side with the reference, in one run: prints a table and writes it as Markdown.
+// How fast the archive and the programs are, side by side with the reference, in one run: prints tables, writes them as Markdown, and the points
+// of the plot as lines of numbers.
 
 use host::ffi;
 use host::gen::{chain, grammar_made, locals, Case, Rng};
@@ -6,6 +7,7 @@ use host::reference::{self, Answer, Counts, MOST_NODES};
 use host::sample;
 use std::fmt::Write;
 use std::hint::black_box;
+use std::path::Path;
 use std::process::ExitCode;
 use std::time::Instant;
 
@@ -28,19 +30,59 @@ struct Pair {
 }
 
 fn main() -> ExitCode {
-    let Some(path) = std::env::args().nth(1) else {
-        eprintln!("usage: bench <file.md>");
+    let words: Vec<String> = std::env::args().skip(1).collect();
+    let [report_to, points_to, programs] = &words[..] else {
+        eprintln!("usage: bench <file.md> <points.csv> <directory of the programs>");
         return ExitCode::from(2);
     };
-    let report = report();
-    print!("{report}");
-    match std::fs::write(&path, &report) {
+    let done = jobs::report(Path::new(programs)).and_then(|jobs| {
+        let report = format!("{}\n{}\n{jobs}", machine(), report());
+        print!("{report}");
+        std::fs::write(report_to, &report)?;
+        std::fs::write(points_to, points())
+    });
+    match done {
         Ok(()) => ExitCode::SUCCESS,
         Err(error) => {
-            eprintln!("{path}: {error}");
+            eprintln!("{error}");
             ExitCode::FAILURE
         }
     }
+}
+
+/// The kind of machine, as far as it says so.
+fn machine() -> String {
+    let info = std::fs::read_to_string("/proc/cpuinfo").unwrap_or_default();
+    let model = info
+        .lines()
+        .find_map(|line| line.strip_prefix("model name")?.split_once(": "))
+        .map_or("unknown", |(_, model)| model);
+    let cores = std::thread::available_parallelism().map_or(1, usize::from);
+    format!("Machine: {model}, {cores} cores.\n")
+}
+
+/// What one reading takes against the blob's length and against the depth: series, x, archive's and reference's nanoseconds.
+fn points() -> String {
+    let mut text = String::from("series,x,archive,reference\n");
+    let mut table = vec![0; MOST_NODES * 6];
+    let mut add = |series: &str, x: usize, case: Case| {
+        let pair = read(&[case], &mut table);
+        writeln!(
+            text,
+            "{series},{x},{:.1},{:.1}",
+            pair.archive, pair.reference
+        )
+        .expect("a string takes all");
+    };
+    for items in (64..=960).step_by(64) {
+        let blob = locals(items, &[0x11, 0x80, 0x84]);
+        add("length", blob.len(), case(2, blob));
+    }
+    for depth in (2..=32).step_by(2) {
+        let blob = chain(depth - 1, &[&[0x1D]]);
+        add("depth", depth, case(0, blob));
+    }
+    text
 }
 
 fn report() -> String {
@@ -244,5 +286,140 @@ mod writing {
         let (_, nodes) = reference::read(case.kind, case.counts, &case.blob, &mut table);
         table.truncate(nodes as usize * 6);
         table
+    }
+}
+
+/// Jobs that the programs do: their time is a run's less a run's that does no job.
+mod jobs {
+    use super::*;
+    use host::reference::decode;
+    use host::sheet::{run_sheet, Model};
+    use std::io;
+    use std::process::{Command, Stdio};
+
+    const RUNS: usize = 20;
+    const NUMBERS: usize = 10_000;
+    const ROUNDS: usize = 1_000;
+    const ROWS: u32 = 64;
+
+    pub fn report(programs: &Path) -> io::Result<String> {
+        let timed = programs.join("timed");
+        let panel = programs.join("panel");
+        let worst = std::env::temp_dir().join(format!("worst-{}.sheet", std::process::id()));
+        let sheet = worst_sheet();
+        std::fs::write(&worst, &sheet)?;
+        let bytes = [5; NUMBERS];
+        let model = cycle();
+        let mut text = String::from("| job | ours | reference | ratio |\n|---|--:|--:|--:|\n");
+        let mut row = |name: &str, unit: &str, [ours, reference]: [f64; 2]| {
+            writeln!(
+                text,
+                "| {name} | {ours:.2} {unit} | {reference:.2} {unit} | {:.2} |",
+                ours / reference
+            )
+            .expect("a string takes all");
+        };
+        let numbers = best(&timed, &["numbers"], || {
+            for _ in 0..ROUNDS {
+                black_box(sum(black_box(&bytes)));
+            }
+        })?;
+        row(
+            "10,000 numbers of one byte",
+            "µs",
+            numbers.map(|ns| ns / 1e3 / ROUNDS as f64),
+        );
+        let asks = best(&timed, &["asks"], || {
+            for i in 0..ROUNDS as u32 * ROWS {
+                black_box(black_box(&model).ask(i % ROWS + 1));
+            }
+        })?;
+        let calls = ROUNDS as f64 * f64::from(ROWS);
+        row(
+            "a row asked, 64 rows in a cycle",
+            "µs",
+            asks.map(|ns| ns / 1e3 / calls),
+        );
+        let path = worst.to_string_lossy();
+        let worst_run = best(&panel, &[&path], || {
+            black_box(run_sheet(black_box(&sheet)));
+        })?;
+        row(
+            "the worst sheet, 65,536 bytes",
+            "ms",
+            worst_run.map(|ns| ns / 1e6),
+        );
+        std::fs::remove_file(&worst)?;
+        writeln!(
+            text,
+            "\nThe best of {RUNS} runs in turn. Ours are whole processes, less the time of one that does no job; the worst sheet's time has its file read and its \
+             text written to nowhere in it. The reference's are calls in this process."
+        )
+        .expect("a string takes all");
+        Ok(text)
+    }
+
+    /// Nanoseconds of a program's job and of the reference's.
+    fn best(program: &Path, words: &[&str], mut reference: impl FnMut()) -> io::Result<[f64; 2]> {
+        let mut best = [f64::INFINITY; 3];
+        for _ in 0..RUNS {
+            best[0] = best[0].min(process(program, words)?);
+            best[1] = best[1].min(process(program, &[])?);
+            let start = Instant::now();
+            reference();
+            best[2] = best[2].min(start.elapsed().as_nanos() as f64);
+        }
+        Ok([best[0] - best[1], best[2]])
+    }
+
+    fn process(program: &Path, words: &[&str]) -> io::Result<f64> {
+        let start = Instant::now();
+        Command::new(program)
+            .args(words)
+            .stdin(Stdio::null())
+            .stdout(Stdio::null())
+            .status()?;
+        Ok(start.elapsed().as_nanos() as f64)
+    }
+
+    fn sum(bytes: &[u8]) -> u64 {
+        let mut sum = 0;
+        let mut at = 0;
+        while let Ok((value, next)) = decode(bytes, at) {
+            sum += u64::from(value);
+            at = next;
+        }
+        sum
+    }
+
+    /// The type of a row that names a row by a modifier.
+    fn naming(row: u32) -> Vec<u8> {
+        match row * 4 + 2 {
+            token @ 0..=0x7F => vec![0x20, token as u8, 0x08],
+            token => vec![0x20, 0x80 + (token >> 8) as u8, token as u8, 0x08],
+        }
+    }
+
+    /// Each row names the next, and the last the first.
+    fn cycle() -> Model {
+        let (mut model, _) = Model::open(0, 0, ROWS);
+        for row in 1..=ROWS {
+            model.file(row, &naming(row % ROWS + 1));
+        }
+        model
+    }
+
+    /// 64 rows, the rest presses.
+    fn worst_sheet() -> Vec<u8> {
+        let mut sheet = vec![0x02, 0x00, 0x00, ROWS as u8];
+        for row in 1..=ROWS {
+            let blob = naming(row % ROWS + 1);
+            sheet.push(blob.len() as u8);
+            sheet.extend(blob);
+        }
+        let presses = 65_536 - sheet.len() - 4;
+        sheet.extend((0xC000_0000 + presses as u32).to_be_bytes());
+        sheet.extend((0..presses).map(|i| (i % 127) as u8 + 1));
+        sheet
     }
 }
