@@ -1,2 +1,4 @@
 pub mod Items
 pub mod Walks
+pub mod Sound
+pub mod Complete
