@@ -154,8 +154,9 @@ sized s p l e = go (ltb maxSheet (length s)) refl e
     go true h e = let z : _≡_ {A = ℕ} 0 1 = cc in absurd (omega arith)
     go false h e = (ltb-false maxSheet (length s) h, e)
 
-abbrev Of : List ℕ → Layout → Type 0
-Of s l = Sheet s (defsOf s l) (refsOf s l) (blobsFrom (l .rows) s (l .blobs)) (acksFrom (l .presses) s (l .acks))
+-- what is read in a sheet spells it, and there are as many blobs as it has rows
+abbrev pub Of : List ℕ → Layout → Type 0
+Of s l = Sheet s (defsOf s l) (refsOf s l) (blobsFrom (l .rows) s (l .blobs)) (acksFrom (l .presses) s (l .acks)) × (length (blobsFrom (l .rows) s (l .blobs)) ≡ l .rows)
 
 module _ (s : List ℕ) (bytes : Bytes s) (size : length s ≤ maxSheet) where
   -- the first section: its count, which is 2, and two table counts
@@ -208,16 +209,18 @@ module _ (s : List ℕ) (bytes : Bytes s) (size : length s ≤ maxSheet) where
         let er : valueOf (checkedAt s (nextOf (checkedAt s at) at)) ≡ h .refs = ap (λ a. valueOf (checkedAt s a)) en ∙ ap valueOf (h .second) in
         let count : Stands s from (encode (length (blobsFrom rows s blobs))) blobs = subst (λ k. Stands s from (encode k) blobs) (sym (lb .counts)) (gb .stands) in
         let number : Stands s until (encode (length (acksFrom presses s acks))) acks = subst (λ k. Stands s until (encode k) acks) (sym (la .counts)) (ga .stands) in
-        let tail : Stands s acks (acksSpelled (acksFrom presses s acks)) (length s) = subst (λ k. Stands s acks (acksSpelled (acksFrom presses s acks)) k) z (la .stands) in
-        rw (ed, er) (record {
-          size = size;
-          defs-few = h .few .0;
-          refs-few = h .few .1;
-          some-blobs = omega (arith, lb .counts, c .1);
-          few-blobs = omega (arith, lb .counts, c .2);
-          numbers = (omega (arith, la .counts, ga .small), lb .small, la .small);
-          spelled = all-of (join (h .start .stands) (join (defs .stands) (join (refs .stands) (join count (join (lb .stands) (join number tail))))));
-        })
+        let tail : Stands s acks (acksSpelled (acksFrom presses s acks)) (length s) = subst (λ k. Stands s acks (acksSpelled (acksFrom presses s acks)) k) z (la .stands) in (
+          rw (ed, er) (record {
+            size = size;
+            defs-few = h .few .0;
+            refs-few = h .few .1;
+            some-blobs = omega (arith, lb .counts, c .1);
+            few-blobs = omega (arith, lb .counts, c .2);
+            numbers = (omega (arith, la .counts, ga .small), lb .small, la .small);
+            spelled = all-of (join (h .start .stands) (join (defs .stands) (join (refs .stands) (join count (join (lb .stands) (join number tail))))));
+          }),
+          lb .counts,
+        )
 
 -- "Exactly 01's rules", one way: an accepted sheet is spelled by the counts, blobs and rows that are read in it
 pub sheet-sound : (s : List ℕ) → Bytes s → (l : Layout) → layoutOf s ≡ Accepted l → Of s l

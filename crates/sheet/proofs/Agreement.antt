@@ -43,7 +43,7 @@ file-rows g row blob = picked (eqb (gate (g .rows) row) 0)
     picked true = refl
     picked false = refl
 
-filed-rows : (blobs : List (List ℕ)) (g : Register) (row : ℕ) → filedAll g row blobs .rows ≡ g .rows
+pub filed-rows : (blobs : List (List ℕ)) (g : Register) (row : ℕ) → filedAll g row blobs .rows ≡ g .rows
 unfolding filedAll
 filed-rows [] g row = refl
 filed-rows (blob ∷ blobs) g row = filed-rows blobs (fileOf g row blob .register) (row + 1) ∙ file-rows g row blob

@@ -6,3 +6,4 @@ pub mod Fits
 pub mod Lengths
 pub mod Agreement
 pub mod Printed
+pub mod Demand
