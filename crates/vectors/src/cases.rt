@@ -6,15 +6,6 @@ const UNTOUCHED: u32 = 0xA5A5A5A5;
 
 pub const KEPT: u8 = 0xA5;
 
-pub fn counts(defs: u32, refs: u32, specs: u32) -> Counts {
-    Counts { defs, refs, specs }
-}
-
-// Document 01's row counts on the bench.
-pub fn sample_counts() -> Counts {
-    counts(0, 18, 1)
-}
-
 // How many numbers of the table are no longer as they were.
 fn changed(table: &[u32]) -> u64 {
     let mut n: u64 = 0;
@@ -127,45 +118,10 @@ fn run(table: &mut [u32], kind: u32, counts: Counts, blob: &[u8]) {
     }
 }
 
-// With room for 1,025 records and a tail of five numbers.
-pub fn show(kind: u32, counts: Counts, blob: &[u8]) {
-    let mut table = [UNTOUCHED; 6155];
-    run(&mut table, kind, counts, blob);
-}
-
-// With this many numbers lent.
-pub fn show_lent(kind: u32, counts: Counts, blob: &[u8], lent: usize) {
+// With this many numbers lent: 6,155 are 1,025 records and a tail of five.
+pub fn show(kind: u32, counts: Counts, blob: &[u8], lent: usize) {
     let mut table = [UNTOUCHED; 6155];
     if lent <= 6155 {
         run(&mut table[..lent], kind, counts, blob);
-    }
-}
-
-// Writes `src` from the offset `at` on, as far as it fits.
-fn copy(dst: &mut [u8], at: usize, src: &[u8]) {
-    let mut to = at;
-    let mut i = 0;
-    while i < src.len() {
-        if dst.len() <= to {
-            return;
-        }
-        dst[to] = src[i];
-        to += 1;
-        i += 1;
-    }
-}
-
-// A blob of `front`, then `n` times `fill`, then `back`.
-pub fn show_filled(kind: u32, counts: Counts, front: &[u8], fill: u8, n: usize, back: &[u8]) {
-    let mut blob = [fill; 8192];
-    if front.len() <= 8 {
-        if n <= 8000 {
-            if back.len() <= 8 {
-                copy(&mut blob, 0, front);
-                copy(&mut blob, front.len() + n, back);
-                let len = front.len() + n + back.len();
-                show(kind, counts, &blob[..len]);
-            }
-        }
     }
 }

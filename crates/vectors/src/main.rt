@@ -3,6 +3,7 @@ mod cases;
 mod numbers;
 mod print;
 mod reads;
+mod rows;
 mod writes;
 
 fn main() {

@@ -1,13 +1,13 @@
--- `vectors::cases::show_lent` is safe and ends. Assumes nothing.
+-- `vectors::cases::show` is safe and ends. Assumes nothing.
 use borrow.Author.Needs.{needs}
 use Prim.Native.Nat.{_-_}
 use mathlib.Core.Path.{sym}
 use lib.Seq.{length-take-le}
-use Rattle.vectors.proofs.cases.show_lent.Statement.{statement}
-use Rattle.vectors.proofs.cases.show_lent.Tie as tie
+use Rattle.vectors.proofs.cases.show.Statement.{statement}
+use Rattle.vectors.proofs.cases.show.Tie as tie
 
-pub show-lent-spec : {M : Type 1} → statement M
-show-lent-spec =
+pub show-spec : {M : Type 1} → statement M
+show-spec =
     tie.close
     (tie.spec
     (λ c. search needs)
