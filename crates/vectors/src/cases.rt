@@ -53,10 +53,10 @@ fn records(table: &[u32], nodes: usize) {
     }
 }
 
-pub fn outcome(code: u32, place: usize) {
-    print::decimal(code as u64);
-    print::text(b" at ");
-    print::decimal(place as u64);
+// A number of the panel and its place, behind a label.
+pub fn outcome(label: &[u8], code: u32, place: usize) {
+    print::number(label, code as u64);
+    print::number(b" at ", place as u64);
 }
 
 // Whether `out` begins with the blob and is untouched behind it.
@@ -76,8 +76,7 @@ fn holds(out: &[u8], blob: &[u8]) -> bool {
 fn write_back(table: &[u32], kind: u32, counts: Counts, blob: &[u8]) {
     let mut out = [KEPT; 4100];
     let answer = writer::write(kind, counts, table, &mut out);
-    print::text(b" written ");
-    outcome(answer.code, answer.place);
+    outcome(b" written ", answer.code, answer.place);
     if holds(&out, blob) {
         print::text(b", the blob\n");
     } else {
@@ -97,20 +96,14 @@ fn back(table: &[u32], nodes: usize, kind: u32, counts: Counts, blob: &[u8]) {
 
 // A blob judged, and read into the table that is lent.
 fn run(table: &mut [u32], kind: u32, counts: Counts, blob: &[u8]) {
-    print::text(b"kind ");
-    print::decimal(kind as u64);
-    print::text(b", ");
-    print::decimal(blob.len() as u64);
-    print::text(b" bytes: judged ");
+    print::number(b"kind ", kind as u64);
+    print::number(b", ", blob.len() as u64);
     let judged = reader::judge(kind, counts, blob);
-    outcome(judged.code, judged.place);
-    print::text(b", read ");
+    outcome(b" bytes: judged ", judged.code, judged.place);
     let answer = reader::read(kind, counts, blob, table);
-    outcome(answer.code, answer.place);
-    print::text(b", numbers written ");
-    print::decimal(changed(table));
-    print::text(b", sum ");
-    print::decimal(checksum(table));
+    outcome(b", read ", answer.code, answer.place);
+    print::number(b", numbers written ", changed(table));
+    print::number(b", sum ", checksum(table));
     print::text(b"\n");
     if answer.code == 0 {
         records(table, answer.place);

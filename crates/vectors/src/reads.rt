@@ -1,10 +1,11 @@
-// Document 01's bench and a dozen refusals of each number from 1 to 13, each read, and its answer and table printed.
+// Document 01's bench and a dozen refusals of each number from 1 to 13, each read, and its answer and table printed. The rows are as rows.rt says.
 use crate::rows::show_rows;
 
-// The rows marked with a star.
-fn marked() {
+// Document 01's bench.
+fn bench() {
     show_rows(
         b"
+# The rows marked with a star.
 1: 06 08
 1: 06
 1: 06 08 08
@@ -16,14 +17,7 @@ fn marked() {
 0: 15 12 09 01 0E
 0: 13 80 80
 0: 13 80 7F
-",
-    );
-}
-
-// The other rows.
-fn others() {
-    show_rows(
-        b"
+# The other rows.
 0: 14 08 01 02
 0: 15 12 09 00
 0: 13 80
@@ -32,26 +26,12 @@ fn others() {
 0: 20 06 12 09
 4: 20 01 01 12 49
 4 0 17 1: 20 01 01 12 49
-",
-    );
-}
-
-// 31 and 32 SZARRAY bytes before an I4; other chains to the last level.
-fn deep() {
-    show_rows(
-        b"
+# 31 and 32 SZARRAY bytes before an I4; other chains to the last level.
 0: 1D*31 08
 0: 1D*32 08
 0: 0F*31 01
 1: 06 1D*30 08
-",
-    );
-}
-
-// 1,023 and 1,024 locals; as many parameters.
-fn broad() {
-    show_rows(
-        b"
+# 1,023 and 1,024 locals; as many parameters.
 2: 07 83 FF 08*1023
 2: 07 84 00 08*1024
 4: 00 83 FE 01 08*1022
@@ -59,10 +39,11 @@ fn broad() {
     );
 }
 
-// Every production of a type.
-fn types() {
+// Every production of the grammar.
+fn accepted() {
     show_rows(
         b"
+# Every production of a type.
 0: 01
 0: 16
 0: 0F 01
@@ -78,14 +59,7 @@ fn types() {
 0: 15 11 09 02 0E 13 08
 0: 1F 0A 1D 20 06 0F 1F 05 01
 0: 1B 60 01 01 1B 25 00 08
-",
-    );
-}
-
-// Every production of the other kinds.
-fn roots() {
-    show_rows(
-        b"
+# Every production of the other kinds.
 1: 06 20 06 12 49
 1: 06 15 12 49 01 1E 00
 2: 07 03 08 16 10 0E
@@ -102,10 +76,11 @@ fn roots() {
     );
 }
 
-// 1: a blob over 4,096 bytes.
-fn refusal_1() {
+// Refusals 1 and 2.
+fn refused_1_2() {
     show_rows(
         b"
+# 1: a blob over 4,096 bytes.
 0: 1D*4097
 1: 06*4097
 2: 07*4097
@@ -118,14 +93,7 @@ fn refusal_1() {
 4: 20*4099
 0: E0*6000
 0: 00*4097
-",
-    );
-}
-
-// 2: bytes end inside or before an item.
-fn refusal_2() {
-    show_rows(
-        b"
+# 2: bytes end inside or before an item.
 0:
 1:
 2: 07
@@ -149,10 +117,11 @@ fn refusal_2() {
     );
 }
 
-// 3: a malformed number.
-fn refusal_3() {
+// Refusals 3 and 4.
+fn refused_3_4() {
     show_rows(
         b"
+# 3: a malformed number.
 0: 13 E0
 0: 13 FF
 0: 13 80 7F
@@ -169,14 +138,7 @@ fn refusal_3() {
 0: 14 08 01 80 00
 0: 14 08 01 01 E1
 0: 14 08 01 00 01 C0 00 00 00
-",
-    );
-}
-
-// 4: a count, Rank, NumSizes or NumLoBounds breaks its rule.
-fn refusal_4() {
-    show_rows(
-        b"
+# 4: a count, Rank, NumSizes or NumLoBounds breaks its rule.
 2: 07 00
 4: 10 00
 4: 30 00
@@ -195,10 +157,11 @@ fn refusal_4() {
     );
 }
 
-// 5: a byte that is not allowed here.
-fn refusal_5() {
+// Refusal 5.
+fn refused_5() {
     show_rows(
         b"
+# 5: a byte that is not allowed here.
 1: 06 10 08
 1: 06 01
 1: 06 16
@@ -223,10 +186,11 @@ fn refusal_5() {
     );
 }
 
-// 6: a node deeper than 32.
-fn refusal_6() {
+// Refusals 6 and 7.
+fn refused_6_7() {
     show_rows(
         b"
+# 6: a node deeper than 32.
 0: 1D*32 08
 0: 0F*32 01
 1: 06 1D*31 08
@@ -240,14 +204,7 @@ fn refusal_6() {
 0: 1B 00 00 1B 00 00 1B 00 00 1B 00 00 1B 00 00 1B 00 00 1B 00 00 1B 00 00 1B 00 00 1B 00 00 1B 00 00 1B 00 00 1B 00 00 1B 00 00 1B 00 00 1B 00 00 08
 0: 1D*31 1B 00 00 01
 0: 1D*31 15 12 09 01 0E
-",
-    );
-}
-
-// 7: tag 3, or a TypeSpec tag after 11 or 12.
-fn refusal_7() {
-    show_rows(
-        b"
+# 7: tag 3, or a TypeSpec tag after 11 or 12.
 0: 20 07
 0: 1F 03
 0: 20 06 0F 20 07
@@ -265,10 +222,11 @@ fn refusal_7() {
     );
 }
 
-// 8: row 0, or a row above its count.
-fn refusal_8() {
+// Refusals 8 and 9.
+fn refused_8_9() {
     show_rows(
         b"
+# 8: row 0, or a row above its count.
 0: 20 00
 0: 20 01
 0: 20 02
@@ -282,14 +240,7 @@ fn refusal_8() {
 0 5 1 5: 1F 09
 0 4 1 5: 1F 14
 0: 1F DF FF FF FD
-",
-    );
-}
-
-// 9: bytes left over.
-fn refusal_9() {
-    show_rows(
-        b"
+# 9: bytes left over.
 1: 06 08 08
 0: 01 00
 0: 08 08
@@ -306,10 +257,11 @@ fn refusal_9() {
     );
 }
 
-// 12: an unknown kind.
-fn refusal_12() {
+// Refusals 12 and 13.
+fn refused_12_13() {
     show_rows(
         b"
+# 12: an unknown kind.
 5: 06 08
 6:
 7: 08
@@ -323,14 +275,7 @@ fn refusal_12() {
 2147483648: 08
 4294967295: 08
 5 16777216 0 0: 08
-",
-    );
-}
-
-// 13: a table count above FFFFFF.
-fn refusal_13() {
-    show_rows(
-        b"
+# 13: a table count above FFFFFF.
 0 16777216 0 0: 08
 0 0 16777216 0: 08
 0 0 0 16777216: 08
@@ -348,10 +293,11 @@ fn refusal_13() {
     );
 }
 
-// 10: a 1,025th node.
-fn refusal_10() {
+// Refusals 10 and 11.
+fn refused_10_11() {
     show_rows(
         b"
+# 10: a 1,025th node.
 2: 07 84 00 08*1024
 2: 07 84 01 0E*1025
 2: 07 88 00 1C*2048
@@ -365,14 +311,7 @@ fn refusal_10() {
 0: 15 12 09 8F FF 19*4000
 1: 06 15 12 09 84 00 08*1024
 0: 1B 00 84 00 01 0D*1024
-",
-    );
-}
-
-// 11: fewer records lent than nodes; success with just enough; a tail is kept.
-fn refusal_11() {
-    show_rows(
-        b"
+# 11: fewer records lent than nodes; success with just enough; a tail is kept.
 1 0 18 1 0: 06 08
 1 0 18 1 1: 06 08
 1 0 18 1 5: 06 08
@@ -396,23 +335,13 @@ fn refusal_11() {
 }
 
 pub fn run() {
-    marked();
-    others();
-    deep();
-    broad();
-    types();
-    roots();
-    refusal_1();
-    refusal_2();
-    refusal_3();
-    refusal_4();
-    refusal_5();
-    refusal_6();
-    refusal_7();
-    refusal_8();
-    refusal_9();
-    refusal_12();
-    refusal_13();
-    refusal_10();
-    refusal_11();
+    bench();
+    accepted();
+    refused_1_2();
+    refused_3_4();
+    refused_5();
+    refused_6_7();
+    refused_8_9();
+    refused_12_13();
+    refused_10_11();
 }

@@ -1,5 +1,6 @@
 // Cases of the reader as rows of text, one to a line: `KIND: BYTES`; with other row counts than the bench's `KIND DEFS REFS SPECS: BYTES`; with
-// other than 6,155 numbers lent `KIND DEFS REFS SPECS LENT: BYTES`. Numbers are decimal, bytes hexadecimal, and `XX*N` is N times the byte XX.
+// other than 6,155 numbers lent `KIND DEFS REFS SPECS LENT: BYTES`. Numbers are decimal, bytes hexadecimal, and `XX*N` is N times the byte XX. A line
+// that starts with `#` says what follows.
 ghost use Prim.Native.Nat.{_≤_};
 ghost use lib.ListN.{length};
 use crate::cases::show;
@@ -133,7 +134,9 @@ pub fn show_rows(text: &[u8]) {
     while at < text.len() {
         let end = until(text, at, b'\n');
         if at < end {
-            show_row(&text[at..end]);
+            if text[at] != b'#' {
+                show_row(&text[at..end]);
+            }
         }
         at = end + 1;
     }

@@ -14,7 +14,7 @@ fn bench() -> Counts {
 }
 
 fn shown(out: &[u8], code: u32, place: usize) {
-    outcome(code, place);
+    outcome(b"", code, place);
     if code == 0 {
         if place <= out.len() {
             print::bytes(&out[..place]);

@@ -1,7 +1,7 @@
 -- `vectors::rows::head` is safe and ends: what is left of the slice falls; k items are no more than the offset. Assumes nothing.
 use borrow.Author.Needs.{needs}
 use Prim.Native.Nat.{_-_, _≤_}
-use mathlib.Core.Path.{_≡_, refl}
+use mathlib.Core.Path.{_≡_}
 use lib.ListN.{length}
 use Rattle.vectors.proofs.rows.head.Statement.{statement}
 use Rattle.vectors.proofs.rows.head.Tie as tie

@@ -1,6 +1,5 @@
 -- `vectors::writes::shown` is safe and ends. Assumes nothing.
 use borrow.Author.Needs.{needs}
-use Prim.Native.Nat.{_-_}
 use mathlib.Core.Path.{sym}
 use lib.Seq.{length-take-le}
 use Rattle.vectors.proofs.writes.shown.Statement.{statement}
@@ -10,6 +9,7 @@ pub shown-spec : {M : Type 1} → statement M
 shown-spec =
     tie.close
     (tie.spec
+    (λ c. search needs)
     (λ c κs. search needs)
     (λ c. sym (length-take-le _ _ (search needs)))
     (λ c κs. search needs)
