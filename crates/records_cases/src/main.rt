@@ -14,7 +14,9 @@ fn text(s: &[u8]) {
     io::write_all(STDOUT_FILENO, s);
 }
 
-fn decimal(n: u64) {
+// A number behind a label.
+fn number(label: &[u8], n: u64) {
+    text(label);
     io::print_decimal(STDOUT_FILENO, n);
 }
 
@@ -32,10 +34,10 @@ fn bench(refs: u32) -> Counts {
     }
 }
 
-fn outcome(code: u32, place: usize) {
-    decimal(code as u64);
-    text(b" at ");
-    decimal(place as u64);
+// A number of the panel and its place, behind a label.
+fn outcome(label: &[u8], code: u32, place: usize) {
+    number(label, code as u64);
+    number(b" at ", place as u64);
 }
 
 fn show_node(node: Node) {
@@ -114,11 +116,9 @@ fn read_both(kind: u32, counts: Counts, blob: &[u8], table: &mut [u32], flat: &m
     let found = records::record_of(kind, counts, blob, table, 0);
     let second = found.answer;
     let first = reader::read(kind, counts, blob, flat);
-    outcome(second.code, second.place);
-    text(b", read ");
-    outcome(first.code, first.place);
-    text(b", the tables agree to ");
-    decimal(agree(table, flat) as u64);
+    outcome(b" bytes: ", second.code, second.place);
+    outcome(b", read ", first.code, first.place);
+    number(b", the tables agree to ", agree(table, flat) as u64);
     text(b"\n");
     if first.code == 0 {
         return first.place;
@@ -128,15 +128,11 @@ fn read_both(kind: u32, counts: Counts, blob: &[u8], table: &mut [u32], flat: &m
 
 // Reads a blob into the two tables that are lent.
 fn run(kind: u32, counts: Counts, blob: &[u8], table: &mut [u32], flat: &mut [u32]) {
-    text(b"kind ");
-    decimal(kind as u64);
-    text(b", ");
-    decimal(blob.len() as u64);
-    text(b" bytes: ");
+    number(b"kind ", kind as u64);
+    number(b", ", blob.len() as u64);
     let nodes = read_both(kind, counts, blob, table, flat);
     let shown = show_records(kind, counts, blob, table, nodes);
-    text(b" records as in the table: ");
-    decimal(shown as u64);
+    number(b" records as in the table: ", shown as u64);
     if blank_at(kind, counts, blob, table, nodes) {
         text(b", the next blank");
     }
