@@ -1,5 +1,5 @@
--- Laws of the definitions in specs/Records.antt: what `read_within` answers of a prefix of the table is what is said of the whole, and what
--- `read_records` asks of an answer and learns of the copy.
+-- Laws of the definitions in specs/Records.antt: what `read_within` answers of a prefix of the table is what is said of the whole; what
+-- `read_records` asks of an answer and learns of the copy; what `record_of` gives past the end of its records.
 -- Assumes nothing.
 use Prim.Native.Nat.{ℕ, zero, suc, _+_, _*_, _/_, _≤_, _<_, zero-le}
 use native.Mathlib.Nat.{not-suc-le-zero, le-of-suc-le-suc}
