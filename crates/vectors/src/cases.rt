@@ -4,7 +4,7 @@ use number::token::Counts;
 
 const UNTOUCHED: u32 = 0xA5A5A5A5;
 
-pub const KEPT: u8 = 0xA5;
+const KEPT: u8 = 0xA5;
 
 // How many numbers of the table are no longer as they were.
 fn changed(table: &[u32]) -> u64 {
@@ -54,7 +54,7 @@ fn records(table: &[u32], nodes: usize) {
 }
 
 // A number of the panel and its place, behind a label.
-pub fn outcome(label: &[u8], code: u32, place: usize) {
+fn outcome(label: &[u8], code: u32, place: usize) {
     print::number(label, code as u64);
     print::number(b" at ", place as u64);
 }

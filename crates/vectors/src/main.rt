@@ -4,10 +4,8 @@ mod numbers;
 mod print;
 mod reads;
 mod rows;
-mod writes;
 
 fn main() {
     numbers::run();
     reads::run();
-    writes::run();
 }
