@@ -1,5 +1,5 @@
--- Laws of the definitions in specs/Records.antt: what `read_within` answers of a prefix of the table is what is said of the whole, and what
--- `read_records` asks of an answer and learns of the copy.
+-- Laws of the definitions in specs/Records.antt: what `read_within` answers of a prefix of the table is what is said of the whole; what
+-- `read_records` asks of an answer and learns of the copy; what `record_of` gives past the end of its records.
 -- Assumes nothing.
 use Prim.Native.Nat.{ℕ, zero, suc, _+_, _*_, _/_, _≤_, _<_, zero-le}
 use native.Mathlib.Nat.{not-suc-le-zero, le-of-suc-le-suc}
@@ -7,11 +7,12 @@ use native.Mathlib.Omega.{arith}
 use mathlib.Core.Path.{_≡_, refl, sym, ap, _∙_}
 use mathlib.Core.Bool.{Bool, true, false, cond}
 use mathlib.Core.List.{List, [], _∷_, _++_, append-assoc}
-use lib.ListN.{length, take, drop, length-append}
+use lib.ListN.{length, getD, take, drop, replicate, length-append, length-drop, length-replicate, List·getD-eq-default}
 use lib.Seq.{length-take-le}
 use lib.Dec.{leb, ltb}
 use borrow.Author.Tests.{lt-ltb, le-ltb, ne-eqb, leb-true, ltb-true, ltb-false}
 use Rattle.number.specs.declared.token.Counts.{Counts}
+use Rattle.grammar.specs.Limits.{maxNodes}
 use Rattle.grammar.specs.Table.{six, flat}
 use Rattle.grammar.specs.Judge.{Out, fault, done, judge, reading}
 use Rattle.grammar.specs.declared.Node.{Node}
@@ -21,7 +22,8 @@ use Rattle.grammar.proofs.Emits.{record-at}
 use Rattle.grammar.proofs.Refusals.{read-refuses}
 use Rattle.reader.specs.Answer.{answer, answerOf, tableOf}
 use Rattle.reader.specs.declared.Answer.{Answer}
-use Rattle.records.specs.Records.{shorter, recordsOf, nodesOf, nodesFrom, copied}
+use Rattle.records.specs.Records.{shorter, recordsOf, blank, foundOf, nodesOf, nodesFrom, copied}
+use Rattle.records.specs.declared.Found.{Found}
 
 -- ---- lists
 
@@ -137,3 +139,17 @@ module _ (kind : ℕ) (counts : Counts) (s t : List ℕ) (most : ℕ) where
     copies-out r n u after e f g h =
         let k : n ≡ nodesOf (answerOf out) = f ∙ ap nodesOf e in
         h ∙ ap (λ (v : List ℕ). copied v n old) g ∙ ap (λ (i : ℕ). copied (tableOf out t) i old) k ∙ copies out refl (ends-reading kind counts s (shorter (length t / 6) most))
+
+-- ---- record_of
+
+-- past the end of the blank records
+past-blank : (o : Out) (i : ℕ) → Holds (Ends 0) o → maxNodes ≤ i → getD (recordsOf o (replicate maxNodes blank)) i blank ≡ blank
+unfolding recordsOf
+past-blank (fault code place) i h l = List·getD-eq-default (replicate maxNodes blank) blank {n = i} (omega (arith, length-replicate maxNodes blank, l))
+past-blank (done at n rs) i (holds h) l =
+    let e = length-append rs (drop n (replicate maxNodes blank)) in
+    let f = length-drop n (replicate maxNodes blank) in
+    List·getD-eq-default (rs ++ drop n (replicate maxNodes blank)) blank {n = i} (omega (arith, e, f, length-replicate maxNodes blank, h, l))
+
+pub found-past : (kind : ℕ) (counts : Counts) (s : List ℕ) (lent i j : ℕ) (found : Found) → maxNodes ≤ i → found ≡ foundOf (reading kind counts s lent) j → record { answer = found .answer; node = blank } ≡ foundOf (reading kind counts s lent) i
+found-past kind counts s lent i j found l e x = record { answer = e x .answer; node = sym (past-blank (reading kind counts s lent) i (ends-reading kind counts s lent) l) x }

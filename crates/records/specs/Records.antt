@@ -3,12 +3,15 @@
 use Prim.Native.Nat.{ℕ, zero, suc, _+_}
 use mathlib.Core.Bool.{cond}
 use mathlib.Core.List.{List, [], _∷_, _++_}
-use lib.ListN.{drop}
+use lib.ListN.{drop, getD, replicate}
 use lib.Dec.{eqb, ltb}
-use Rattle.grammar.specs.Table.{recordAt}
+use Rattle.grammar.specs.Limits.{maxNodes}
+use Rattle.grammar.specs.Table.{entry, recordAt}
 use Rattle.grammar.specs.Judge.{Out, fault, done}
 use Rattle.grammar.specs.declared.Node.{Node}
+use Rattle.reader.specs.Answer.{answerOf}
 use Rattle.reader.specs.declared.Answer.{Answer}
+use Rattle.records.specs.declared.Found.{Found}
 
 -- the shorter of the two lent, in records
 abbrev pub shorter : ℕ → ℕ → ℕ
@@ -18,6 +21,14 @@ shorter room most = cond (ltb most room) most room
 unfoldable pub recordsOf : Out → List Node → List Node
 recordsOf (fault code place) old = old
 recordsOf (done at n rs) old = rs ++ drop n old
+
+-- a record of zeros
+abbrev pub blank : Node
+blank = entry 0 0 0 0 0 0
+
+-- the answer, and record i of a slice of maxNodes blank records
+abbrev pub foundOf : Out → ℕ → Found
+foundOf out i = record { answer = answerOf out; node = getD (recordsOf out (replicate maxNodes blank)) i blank }
 
 -- ---- Internal: an auditor goes by the above.
 

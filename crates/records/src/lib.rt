@@ -1,15 +1,48 @@
 // The reader's second call: a signature blob read into the flat node table and into the caller's slice of record structs.
 // The functions that touch a slice of structs are few and thin; all else is on the flat table.
 ghost use mathlib.Core.Path.{_≡_};
-ghost use Prim.Native.Nat.{_≤_, _*_, _+_, _/_};
-ghost use lib.ListN.{length};
+ghost use Prim.Native.Nat.{_<_, _≤_, _*_, _+_, _/_};
+ghost use lib.ListN.{length, set, getD};
+ghost use Rattle.grammar.specs.Limits.{maxNodes};
 ghost use Rattle.grammar.specs.Table.{recordAt};
 ghost use Rattle.grammar.specs.Judge.{reading};
 ghost use Rattle.reader.specs.Answer.{answerOf, tableOf};
-ghost use Rattle.records.specs.Records.{shorter, nodesOf, copied, recordsOf};
+ghost use Rattle.records.specs.Records.{shorter, recordsOf, blank, foundOf, nodesOf, copied};
+use grammar::MAX_NODES;
 use grammar::Node;
 use number::token::Counts;
 use reader::Answer;
+
+const BLANK: Node = Node {
+    kind: 0,
+    a: 0,
+    b: 0,
+    children: 0,
+    at: 0,
+    after: 0,
+};
+
+// What `record_of` gives: the call's answer, and one record.
+pub struct Found {
+    pub answer: Answer,
+    pub node: Node,
+}
+
+// Writes one record.
+fn store_record(records: &mut [Node], i: usize, node: Node)
+    requires { ⌜ i < length (now records) ⌝ }
+    ensures { λ _. ⌜ now (records .exit) ≡ set (now (records .entry)) i node ⌝ }
+{
+    records[i] = node;
+}
+
+// Reads one record.
+fn record_at(records: &[Node], i: usize) -> Node
+    requires { ⌜ i < length (now records) ⌝ }
+    ensures { λ r. ⌜ r ≡ getD (now (records .entry)) i blank ⌝ }
+{
+    records[i]
+}
 
 // Record i of the flat table.
 fn node_of(table: &[u32], i: usize) -> Node
@@ -34,7 +67,8 @@ fn copy_records(table: &[u32], records: &mut [Node], count: usize)
 {
     let mut i = 0;
     while i < count {
-        records[i] = node_of(table, i);
+        let node = node_of(table, i);
+        store_record(records, i, node);
         i = i + 1;
     }
 }
@@ -77,4 +111,31 @@ pub fn read_records(
     let nodes = nodes_of(answer);
     copy_records(table, records, nodes);
     answer
+}
+
+// Record i by way of a local array of records.
+fn record_within(kind: u32, counts: Counts, blob: &[u8], table: &mut [u32], i: usize) -> Found
+    requires { ⌜ i < maxNodes ⌝ }
+    ensures { λ r. ⌜ (r ≡ foundOf (reading kind counts (now (blob .entry)) (shorter (length (now (table .entry)) / 6) maxNodes)) i)
+        × (now (table .exit) ≡ tableOf (reading kind counts (now (blob .entry)) (shorter (length (now (table .entry)) / 6) maxNodes)) (now (table .entry))) ⌝ }
+{
+    let mut records = [BLANK; MAX_NODES];
+    let answer = read_records(kind, counts, blob, table, &mut records);
+    let node = record_at(&records, i);
+    Found { answer, node }
+}
+
+// Reads a blob into the flat table and into 1,024 blank records of its own, and gives the answer and record i; past their end a blank one.
+// No parameter is a slice of structs: its callers need no proof by hand.
+pub fn record_of(kind: u32, counts: Counts, blob: &[u8], table: &mut [u32], i: usize) -> Found
+    ensures { λ r. ⌜ (r ≡ foundOf (reading kind counts (now (blob .entry)) (shorter (length (now (table .entry)) / 6) maxNodes)) i)
+        × (now (table .exit) ≡ tableOf (reading kind counts (now (blob .entry)) (shorter (length (now (table .entry)) / 6) maxNodes)) (now (table .entry))) ⌝ }
+{
+    if i < MAX_NODES {
+        return record_within(kind, counts, blob, table, i);
+    }
+    let found = record_within(kind, counts, blob, table, 0);
+    let answer = found.answer;
+    let node = BLANK;
+    Found { answer, node }
 }

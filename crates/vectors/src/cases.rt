@@ -4,16 +4,7 @@ use number::token::Counts;
 
 const UNTOUCHED: u32 = 0xA5A5A5A5;
 
-pub const KEPT: u8 = 0xA5;
-
-pub fn counts(defs: u32, refs: u32, specs: u32) -> Counts {
-    Counts { defs, refs, specs }
-}
-
-// Document 01's row counts on the bench.
-pub fn sample_counts() -> Counts {
-    counts(0, 18, 1)
-}
+const KEPT: u8 = 0xA5;
 
 // How many numbers of the table are no longer as they were.
 fn changed(table: &[u32]) -> u64 {
@@ -62,10 +53,10 @@ fn records(table: &[u32], nodes: usize) {
     }
 }
 
-pub fn outcome(code: u32, place: usize) {
-    print::decimal(code as u64);
-    print::text(b" at ");
-    print::decimal(place as u64);
+// A number of the panel and its place, behind a label.
+fn outcome(label: &[u8], code: u32, place: usize) {
+    print::number(label, code as u64);
+    print::number(b" at ", place as u64);
 }
 
 // Whether `out` begins with the blob and is untouched behind it.
@@ -85,8 +76,7 @@ fn holds(out: &[u8], blob: &[u8]) -> bool {
 fn write_back(table: &[u32], kind: u32, counts: Counts, blob: &[u8]) {
     let mut out = [KEPT; 4100];
     let answer = writer::write(kind, counts, table, &mut out);
-    print::text(b" written ");
-    outcome(answer.code, answer.place);
+    outcome(b" written ", answer.code, answer.place);
     if holds(&out, blob) {
         print::text(b", the blob\n");
     } else {
@@ -106,20 +96,14 @@ fn back(table: &[u32], nodes: usize, kind: u32, counts: Counts, blob: &[u8]) {
 
 // A blob judged, and read into the table that is lent.
 fn run(table: &mut [u32], kind: u32, counts: Counts, blob: &[u8]) {
-    print::text(b"kind ");
-    print::decimal(kind as u64);
-    print::text(b", ");
-    print::decimal(blob.len() as u64);
-    print::text(b" bytes: judged ");
+    print::number(b"kind ", kind as u64);
+    print::number(b", ", blob.len() as u64);
     let judged = reader::judge(kind, counts, blob);
-    outcome(judged.code, judged.place);
-    print::text(b", read ");
+    outcome(b" bytes: judged ", judged.code, judged.place);
     let answer = reader::read(kind, counts, blob, table);
-    outcome(answer.code, answer.place);
-    print::text(b", numbers written ");
-    print::decimal(changed(table));
-    print::text(b", sum ");
-    print::decimal(checksum(table));
+    outcome(b", read ", answer.code, answer.place);
+    print::number(b", numbers written ", changed(table));
+    print::number(b", sum ", checksum(table));
     print::text(b"\n");
     if answer.code == 0 {
         records(table, answer.place);
@@ -127,45 +111,10 @@ fn run(table: &mut [u32], kind: u32, counts: Counts, blob: &[u8]) {
     }
 }
 
-// With room for 1,025 records and a tail of five numbers.
-pub fn show(kind: u32, counts: Counts, blob: &[u8]) {
-    let mut table = [UNTOUCHED; 6155];
-    run(&mut table, kind, counts, blob);
-}
-
-// With this many numbers lent.
-pub fn show_lent(kind: u32, counts: Counts, blob: &[u8], lent: usize) {
+// With this many numbers lent: 6,155 are 1,025 records and a tail of five.
+pub fn show(kind: u32, counts: Counts, blob: &[u8], lent: usize) {
     let mut table = [UNTOUCHED; 6155];
     if lent <= 6155 {
         run(&mut table[..lent], kind, counts, blob);
-    }
-}
-
-// Writes `src` from the offset `at` on, as far as it fits.
-fn copy(dst: &mut [u8], at: usize, src: &[u8]) {
-    let mut to = at;
-    let mut i = 0;
-    while i < src.len() {
-        if dst.len() <= to {
-            return;
-        }
-        dst[to] = src[i];
-        to += 1;
-        i += 1;
-    }
-}
-
-// A blob of `front`, then `n` times `fill`, then `back`.
-pub fn show_filled(kind: u32, counts: Counts, front: &[u8], fill: u8, n: usize, back: &[u8]) {
-    let mut blob = [fill; 8192];
-    if front.len() <= 8 {
-        if n <= 8000 {
-            if back.len() <= 8 {
-                copy(&mut blob, 0, front);
-                copy(&mut blob, front.len() + n, back);
-                let len = front.len() + n + back.len();
-                show(kind, counts, &blob[..len]);
-            }
-        }
     }
 }

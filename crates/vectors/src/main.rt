@@ -3,10 +3,9 @@ mod cases;
 mod numbers;
 mod print;
 mod reads;
-mod writes;
+mod rows;
 
 fn main() {
     numbers::run();
     reads::run();
-    writes::run();
 }

@@ -9,6 +9,12 @@ pub fn decimal(n: u64) {
     io::print_decimal(STDOUT_FILENO, n);
 }
 
+// A number behind a label.
+pub fn number(label: &[u8], n: u64) {
+    text(label);
+    decimal(n);
+}
+
 pub fn hex(n: u64) {
     io::print_hex(STDOUT_FILENO, n, 1);
 }

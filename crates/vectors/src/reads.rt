@@ -1,379 +1,347 @@
-// Document 01's bench and a dozen refusals of each number from 1 to 13, each read, and its answer and table printed.
-use crate::cases::counts;
-use crate::cases::sample_counts;
-use crate::cases::show;
-use crate::cases::show_filled;
-use crate::cases::show_lent;
+// Document 01's bench and a dozen refusals of each number from 1 to 13, each read, and its answer and table printed. The rows are as rows.rt says.
+use crate::rows::show_rows;
 
-// The rows marked with a star.
-fn marked() {
-    show(1, sample_counts(), b"\x06\x08");
-    show(1, sample_counts(), b"\x06");
-    show(1, sample_counts(), b"\x06\x08\x08");
-    show(1, sample_counts(), b"\x06\x10\x08");
-    show(0, sample_counts(), b"\x0F\x20\x06\x08");
-    show(0, sample_counts(), b"");
-    show(0, sample_counts(), b"\x14\x08\x01\x01\x03\x00");
-    show(0, sample_counts(), b"\x14\x08\x00\x00\x00");
-    show(0, sample_counts(), b"\x15\x12\x09\x01\x0E");
-    show(0, sample_counts(), b"\x13\x80\x80");
-    show(0, sample_counts(), b"\x13\x80\x7F");
-}
-
-// The other rows.
-fn others() {
-    show(0, sample_counts(), b"\x14\x08\x01\x02");
-    show(0, sample_counts(), b"\x15\x12\x09\x00");
-    show(0, sample_counts(), b"\x13\x80");
-    show(0, sample_counts(), b"\x13\xE0");
-    show(0, sample_counts(), b"\x12\x09");
-    show(0, sample_counts(), b"\x20\x06\x12\x09");
-    show(4, sample_counts(), b"\x20\x01\x01\x12\x49");
-    show(4, counts(0, 17, 1), b"\x20\x01\x01\x12\x49");
-}
-
-// 31 and 32 SZARRAY bytes before an I4; other chains to the last level.
-fn deep() {
-    show_filled(0, sample_counts(), b"", 0x1D, 31, b"\x08");
-    show_filled(0, sample_counts(), b"", 0x1D, 32, b"\x08");
-    show_filled(0, sample_counts(), b"", 0x0F, 31, b"\x01");
-    show_filled(1, sample_counts(), b"\x06", 0x1D, 30, b"\x08");
-}
-
-// 1,023 and 1,024 locals; as many parameters.
-fn broad() {
-    show_filled(2, sample_counts(), b"\x07\x83\xFF", 0x08, 1023, b"");
-    show_filled(2, sample_counts(), b"\x07\x84\x00", 0x08, 1024, b"");
-    show_filled(4, sample_counts(), b"\x00\x83\xFE\x01", 0x08, 1022, b"");
-}
-
-// Every production of a type.
-fn types() {
-    show(0, sample_counts(), b"\x01");
-    show(0, sample_counts(), b"\x16");
-    show(0, sample_counts(), b"\x0F\x01");
-    show(0, sample_counts(), b"\x0F\x20\x06\x01");
-    show(0, sample_counts(), b"\x1D\x1C");
-    show(0, sample_counts(), b"\x13\x1F");
-    show(0, sample_counts(), b"\x1E\x00");
-    show(0, sample_counts(), b"\x18");
-    show(0, sample_counts(), b"\x14\x08\x02\x02\x03\x05\x02\x01\x06");
-    show(0, sample_counts(), b"\x14\x08\x20\x00\x00");
-    show(0, sample_counts(), b"\x1B\x20\x00\x01");
-    show(0, sample_counts(), b"\x1B\x05\x02\x01\x10\x08");
-    show(0, sample_counts(), b"\x15\x11\x09\x02\x0E\x13\x08");
-    show(0, sample_counts(), b"\x1F\x0A\x1D\x20\x06\x0F\x1F\x05\x01");
-    show(0, sample_counts(), b"\x1B\x60\x01\x01\x1B\x25\x00\x08");
-}
-
-// Every production of the other kinds.
-fn roots() {
-    show(1, sample_counts(), b"\x06\x20\x06\x12\x49");
-    show(1, sample_counts(), b"\x06\x15\x12\x49\x01\x1E\x00");
-    show(2, sample_counts(), b"\x07\x03\x08\x16\x10\x0E");
-    show(
-        2,
-        sample_counts(),
-        b"\x07\x03\x45\x10\x08\x45\x0E\x20\x06\x45\x1C",
+// Document 01's bench.
+fn bench() {
+    show_rows(
+        b"
+# The rows marked with a star.
+1: 06 08
+1: 06
+1: 06 08 08
+1: 06 10 08
+0: 0F 20 06 08
+0:
+0: 14 08 01 01 03 00
+0: 14 08 00 00 00
+0: 15 12 09 01 0E
+0: 13 80 80
+0: 13 80 7F
+# The other rows.
+0: 14 08 01 02
+0: 15 12 09 00
+0: 13 80
+0: 13 E0
+0: 12 09
+0: 20 06 12 09
+4: 20 01 01 12 49
+4 0 17 1: 20 01 01 12 49
+# 31 and 32 SZARRAY bytes before an I4; other chains to the last level.
+0: 1D*31 08
+0: 1D*32 08
+0: 0F*31 01
+1: 06 1D*30 08
+# 1,023 and 1,024 locals; as many parameters.
+2: 07 83 FF 08*1023
+2: 07 84 00 08*1024
+4: 00 83 FE 01 08*1022
+",
     );
-    show(3, sample_counts(), b"\x08\x00\x0E");
-    show(3, sample_counts(), b"\x28\x02\x08\x20\x06\x10\x08\x16");
-    show(4, sample_counts(), b"\x00\x00\x01");
-    show(4, sample_counts(), b"\x25\x02\x10\x08\x16\x20\x0A\x0E");
-    show(4, sample_counts(), b"\x10\x01\x01\x1E\x00\x1E\x00");
-    show(4, sample_counts(), b"\x30\x02\x00\x16");
-    show(4, sample_counts(), b"\x70\x01\x00\x20\x06\x10\x1D\x08");
-    show(4, sample_counts(), b"\x65\x00\x16");
 }
 
-// 1: a blob over 4,096 bytes.
-fn refusal_1() {
-    show_filled(0, sample_counts(), b"", 0x1D, 4097, b"");
-    show_filled(1, sample_counts(), b"", 0x06, 4097, b"");
-    show_filled(2, sample_counts(), b"", 0x07, 4097, b"");
-    show_filled(3, sample_counts(), b"", 0x08, 4097, b"");
-    show_filled(4, sample_counts(), b"", 0x00, 4097, b"");
-    show_filled(0, sample_counts(), b"", 0x08, 5000, b"");
-    show_filled(1, sample_counts(), b"", 0x08, 4098, b"");
-    show_filled(2, sample_counts(), b"", 0xFF, 8000, b"");
-    show_filled(3, sample_counts(), b"", 0x28, 4100, b"");
-    show_filled(4, sample_counts(), b"", 0x20, 4099, b"");
-    show_filled(0, sample_counts(), b"", 0xE0, 6000, b"");
-    show_filled(0, sample_counts(), b"", 0x00, 4097, b"");
-}
-
-// 2: bytes end inside or before an item.
-fn refusal_2() {
-    show(0, sample_counts(), b"");
-    show(1, sample_counts(), b"");
-    show(2, sample_counts(), b"\x07");
-    show(3, sample_counts(), b"\x08");
-    show(4, sample_counts(), b"\x00");
-    show(1, sample_counts(), b"\x06");
-    show(0, sample_counts(), b"\x1D");
-    show(0, sample_counts(), b"\x20\x06");
-    show(0, sample_counts(), b"\x13\x80");
-    show(0, sample_counts(), b"\x13\xC0\x00\x40");
-    show(0, sample_counts(), b"\x15");
-    show(0, sample_counts(), b"\x15\x12");
-    show(0, sample_counts(), b"\x15\x12\x09");
-    show(0, sample_counts(), b"\x14\x08\x01");
-    show(0, sample_counts(), b"\x14\x08\x01\x01");
-    show(0, sample_counts(), b"\x14\x08\x01\x00\x80");
-    show(4, sample_counts(), b"\x20\xDF\xFF\xFF\xFF");
-    show(4, sample_counts(), b"\x00\x02\x01\x0E");
-    show(2, sample_counts(), b"\x07\x02\x08");
-}
-
-// 3: a malformed number.
-fn refusal_3() {
-    show(0, sample_counts(), b"\x13\xE0");
-    show(0, sample_counts(), b"\x13\xFF");
-    show(0, sample_counts(), b"\x13\x80\x7F");
-    show(0, sample_counts(), b"\x1E\x80\x00");
-    show(0, sample_counts(), b"\x13\xC0\x00\x3F\xFF");
-    show(0, sample_counts(), b"\x13\xC0\x00\x00\x05");
-    show(2, sample_counts(), b"\x07\x80\x01");
-    show(3, sample_counts(), b"\x08\xE0");
-    show(4, sample_counts(), b"\x00\xF0");
-    show(4, sample_counts(), b"\x10\x80\x0A\x00");
-    show(0, sample_counts(), b"\x20\xE0");
-    show(0, sample_counts(), b"\x20\x80\x06");
-    show(0, sample_counts(), b"\x14\x08\xFF");
-    show(0, sample_counts(), b"\x14\x08\x01\x80\x00");
-    show(0, sample_counts(), b"\x14\x08\x01\x01\xE1");
-    show(0, sample_counts(), b"\x14\x08\x01\x00\x01\xC0\x00\x00\x00");
-}
-
-// 4: a count, Rank, NumSizes or NumLoBounds breaks its rule.
-fn refusal_4() {
-    show(2, sample_counts(), b"\x07\x00");
-    show(4, sample_counts(), b"\x10\x00");
-    show(4, sample_counts(), b"\x30\x00");
-    show(4, sample_counts(), b"\x70\x00");
-    show(0, sample_counts(), b"\x15\x12\x09\x00");
-    show(0, counts(1, 18, 1), b"\x15\x11\x05\x00");
-    show(0, sample_counts(), b"\x14\x08\x00");
-    show(0, sample_counts(), b"\x14\x08\x21");
-    show(0, sample_counts(), b"\x14\x08\x80\x80");
-    show(0, sample_counts(), b"\x14\x08\x01\x02");
-    show(0, sample_counts(), b"\x14\x08\x01\x00\x02");
-    show(0, sample_counts(), b"\x14\x08\x20\x21");
-    show(0, sample_counts(), b"\x14\x08\x02\x01\x05\x03");
-    show(0, sample_counts(), b"\x1D\x15\x12\x09\x00");
-}
-
-// 5: a byte that is not allowed here.
-fn refusal_5() {
-    show(1, sample_counts(), b"\x06\x10\x08");
-    show(1, sample_counts(), b"\x06\x01");
-    show(1, sample_counts(), b"\x06\x16");
-    show(1, sample_counts(), b"\x07");
-    show(2, sample_counts(), b"\x07\x01\x45\x45\x08");
-    show(2, sample_counts(), b"\x07\x01\x45\x20\x06\x10\x08");
-    show(2, sample_counts(), b"\x07\x01\x01");
-    show(3, sample_counts(), b"\x08\x01\x0E\x01");
-    show(4, sample_counts(), b"\x00\x01\x08\x01");
-    show(0, sample_counts(), b"\x12\x09");
-    show(0, sample_counts(), b"\x11\x09");
-    show(0, sample_counts(), b"\x10");
-    show(0, sample_counts(), b"\x0F\x10");
-    show(0, sample_counts(), b"\x1D\x16");
-    show(0, sample_counts(), b"\x1B\x10\x01\x00\x01");
-    show(0, sample_counts(), b"\x1B\x06");
-    show(0, sample_counts(), b"\x15\x13\x09\x01\x08");
-    show(4, sample_counts(), b"\x40");
-    show(0, sample_counts(), b"\x20\x06\x45\x08");
-    show(0, sample_counts(), b"\x17");
-}
-
-// 6: a node deeper than 32.
-fn refusal_6() {
-    show_filled(0, sample_counts(), b"", 0x1D, 32, b"\x08");
-    show_filled(0, sample_counts(), b"", 0x0F, 32, b"\x01");
-    show_filled(1, sample_counts(), b"\x06", 0x1D, 31, b"\x08");
-    show_filled(1, sample_counts(), b"\x06", 0x0F, 31, b"\x0E");
-    show_filled(2, sample_counts(), b"\x07\x01", 0x1D, 31, b"\x08");
-    show_filled(3, sample_counts(), b"\x08\x00", 0x1D, 31, b"\x08");
-    show_filled(4, sample_counts(), b"\x00\x00", 0x0F, 31, b"\x08");
-    show(
-        0,
-        sample_counts(),
-        b"\x20\x06\x20\x06\x20\x06\x20\x06\x20\x06\x20\x06\x20\x06\x20\x06\x20\x06\x20\x06\x20\x06\x20\x06\x20\x06\x20\x06\x20\x06\x20\x06\x20\x06\x20\x06\x20\x06\x20\x06\x20\x06\x20\x06\x20\x06\x20\x06\x20\x06\x20\x06\x20\x06\x20\x06\x20\x06\x20\x06\x20\x06\x20\x06\x08",
+// Every production of the grammar.
+fn accepted() {
+    show_rows(
+        b"
+# Every production of a type.
+0: 01
+0: 16
+0: 0F 01
+0: 0F 20 06 01
+0: 1D 1C
+0: 13 1F
+0: 1E 00
+0: 18
+0: 14 08 02 02 03 05 02 01 06
+0: 14 08 20 00 00
+0: 1B 20 00 01
+0: 1B 05 02 01 10 08
+0: 15 11 09 02 0E 13 08
+0: 1F 0A 1D 20 06 0F 1F 05 01
+0: 1B 60 01 01 1B 25 00 08
+# Every production of the other kinds.
+1: 06 20 06 12 49
+1: 06 15 12 49 01 1E 00
+2: 07 03 08 16 10 0E
+2: 07 03 45 10 08 45 0E 20 06 45 1C
+3: 08 00 0E
+3: 28 02 08 20 06 10 08 16
+4: 00 00 01
+4: 25 02 10 08 16 20 0A 0E
+4: 10 01 01 1E 00 1E 00
+4: 30 02 00 16
+4: 70 01 00 20 06 10 1D 08
+4: 65 00 16
+",
     );
-    show_filled(
-        0,
-        sample_counts(),
-        b"",
-        0x1D,
-        31,
-        b"\x14\x08\x01\x01\x05\x00",
+}
+
+// Refusals 1 and 2.
+fn refused_1_2() {
+    show_rows(
+        b"
+# 1: a blob over 4,096 bytes.
+0: 1D*4097
+1: 06*4097
+2: 07*4097
+3: 08*4097
+4: 00*4097
+0: 08*5000
+1: 08*4098
+2: FF*8000
+3: 28*4100
+4: 20*4099
+0: E0*6000
+0: 00*4097
+# 2: bytes end inside or before an item.
+0:
+1:
+2: 07
+3: 08
+4: 00
+1: 06
+0: 1D
+0: 20 06
+0: 13 80
+0: 13 C0 00 40
+0: 15
+0: 15 12
+0: 15 12 09
+0: 14 08 01
+0: 14 08 01 01
+0: 14 08 01 00 80
+4: 20 DF FF FF FF
+4: 00 02 01 0E
+2: 07 02 08
+",
     );
-    show_filled(
-        0,
-        sample_counts(),
-        b"",
-        0x1D,
-        31,
-        b"\x14\x08\x01\x00\x01\x05",
+}
+
+// Refusals 3 and 4.
+fn refused_3_4() {
+    show_rows(
+        b"
+# 3: a malformed number.
+0: 13 E0
+0: 13 FF
+0: 13 80 7F
+0: 1E 80 00
+0: 13 C0 00 3F FF
+0: 13 C0 00 00 05
+2: 07 80 01
+3: 08 E0
+4: 00 F0
+4: 10 80 0A 00
+0: 20 E0
+0: 20 80 06
+0: 14 08 FF
+0: 14 08 01 80 00
+0: 14 08 01 01 E1
+0: 14 08 01 00 01 C0 00 00 00
+# 4: a count, Rank, NumSizes or NumLoBounds breaks its rule.
+2: 07 00
+4: 10 00
+4: 30 00
+4: 70 00
+0: 15 12 09 00
+0 1 18 1: 15 11 05 00
+0: 14 08 00
+0: 14 08 21
+0: 14 08 80 80
+0: 14 08 01 02
+0: 14 08 01 00 02
+0: 14 08 20 21
+0: 14 08 02 01 05 03
+0: 1D 15 12 09 00
+",
     );
-    show(
-        0,
-        sample_counts(),
-        b"\x1B\x00\x00\x1B\x00\x00\x1B\x00\x00\x1B\x00\x00\x1B\x00\x00\x1B\x00\x00\x1B\x00\x00\x1B\x00\x00\x1B\x00\x00\x1B\x00\x00\x1B\x00\x00\x1B\x00\x00\x1B\x00\x00\x1B\x00\x00\x1B\x00\x00\x1B\x00\x00\x08",
+}
+
+// Refusal 5.
+fn refused_5() {
+    show_rows(
+        b"
+# 5: a byte that is not allowed here.
+1: 06 10 08
+1: 06 01
+1: 06 16
+1: 07
+2: 07 01 45 45 08
+2: 07 01 45 20 06 10 08
+2: 07 01 01
+3: 08 01 0E 01
+4: 00 01 08 01
+0: 12 09
+0: 11 09
+0: 10
+0: 0F 10
+0: 1D 16
+0: 1B 10 01 00 01
+0: 1B 06
+0: 15 13 09 01 08
+4: 40
+0: 20 06 45 08
+0: 17
+",
     );
-    show_filled(0, sample_counts(), b"", 0x1D, 31, b"\x1B\x00\x00\x01");
-    show_filled(0, sample_counts(), b"", 0x1D, 31, b"\x15\x12\x09\x01\x0E");
 }
 
-// 7: tag 3, or a TypeSpec tag after 11 or 12.
-fn refusal_7() {
-    show(0, sample_counts(), b"\x20\x07");
-    show(0, sample_counts(), b"\x1F\x03");
-    show(0, sample_counts(), b"\x20\x06\x0F\x20\x07");
-    show(0, sample_counts(), b"\x20\x06\x12\x06");
-    show(0, sample_counts(), b"\x20\x06\x11\x06");
-    show(1, sample_counts(), b"\x06\x12\x06");
-    show(1, sample_counts(), b"\x06\x11\x0B");
-    show(0, sample_counts(), b"\x15\x12\x06\x01\x08");
-    show(0, sample_counts(), b"\x15\x11\x07\x01\x08");
-    show(2, sample_counts(), b"\x07\x01\x20\x07");
-    show(3, sample_counts(), b"\x08\x00\x12\x0A");
-    show(4, sample_counts(), b"\x00\x00\x0F\x12\x0A");
-    show(0, sample_counts(), b"\x1F\xBF\xFF");
-}
-
-// 8: row 0, or a row above its count.
-fn refusal_8() {
-    show(0, sample_counts(), b"\x20\x00");
-    show(0, sample_counts(), b"\x20\x01");
-    show(0, sample_counts(), b"\x20\x02");
-    show(0, sample_counts(), b"\x20\x04");
-    show(0, sample_counts(), b"\x20\x4D");
-    show(0, sample_counts(), b"\x20\x0A");
-    show(1, sample_counts(), b"\x06\x12\x4D");
-    show(1, sample_counts(), b"\x06\x11\x01");
-    show(0, sample_counts(), b"\x15\x12\x4D\x01\x08");
-    show(4, counts(0, 17, 1), b"\x20\x01\x01\x12\x49");
-    show(0, counts(5, 1, 5), b"\x1F\x09");
-    show(0, counts(4, 1, 5), b"\x1F\x14");
-    show(0, sample_counts(), b"\x1F\xDF\xFF\xFF\xFD");
-}
-
-// 9: bytes left over.
-fn refusal_9() {
-    show(1, sample_counts(), b"\x06\x08\x08");
-    show(0, sample_counts(), b"\x01\x00");
-    show(0, sample_counts(), b"\x08\x08");
-    show(0, sample_counts(), b"\x1D\x08\x00");
-    show(0, sample_counts(), b"\x13\x80\x80\x00");
-    show(2, sample_counts(), b"\x07\x01\x08\x08");
-    show(3, sample_counts(), b"\x08\x00\x08\x00");
-    show(4, sample_counts(), b"\x00\x00\x01\x00");
-    show(0, sample_counts(), b"\x15\x12\x09\x01\x0E\x0E");
-    show(0, sample_counts(), b"\x14\x08\x01\x00\x00\x00");
-    show(0, sample_counts(), b"\x20\x06\x16\x16");
-    show(0, sample_counts(), b"\x1B\x00\x00\x01\x01");
-}
-
-// 12: an unknown kind.
-fn refusal_12() {
-    show(5, sample_counts(), b"\x06\x08");
-    show(6, sample_counts(), b"");
-    show(7, sample_counts(), b"\x08");
-    show(8, sample_counts(), b"\x0A\x01\x08");
-    show(9, sample_counts(), b"\x08");
-    show(10, sample_counts(), b"\x08");
-    show(255, sample_counts(), b"\x08");
-    show(256, sample_counts(), b"\x08");
-    show(65536, sample_counts(), b"\x08");
-    show(2147483647, sample_counts(), b"\x08");
-    show(2147483648, sample_counts(), b"\x08");
-    show(4294967295, sample_counts(), b"\x08");
-    show(5, counts(16777216, 0, 0), b"\x08");
-}
-
-// 13: a table count above FFFFFF.
-fn refusal_13() {
-    show(0, counts(16777216, 0, 0), b"\x08");
-    show(0, counts(0, 16777216, 0), b"\x08");
-    show(0, counts(0, 0, 16777216), b"\x08");
-    show(1, counts(4294967295, 0, 0), b"");
-    show(2, counts(0, 4294967295, 0), b"");
-    show(3, counts(0, 0, 4294967295), b"");
-    show(4, counts(2147483648, 0, 0), b"");
-    show(0, counts(0, 2147483648, 0), b"\xE0");
-    show(0, counts(16777215, 16777215, 16777216), b"\x08");
-    show(0, counts(16777216, 16777216, 16777216), b"\x08");
-    show(1, counts(16777215, 33554432, 0), b"\x06\x08");
-    show(4, counts(16777216, 16777215, 16777215), b"\x00\x00\x01");
-    show(0, counts(16777215, 16777215, 16777215), b"\x08");
-}
-
-// 10: a 1,025th node.
-fn refusal_10() {
-    show_filled(2, sample_counts(), b"\x07\x84\x00", 0x08, 1024, b"");
-    show_filled(2, sample_counts(), b"\x07\x84\x01", 0x0E, 1025, b"");
-    show_filled(2, sample_counts(), b"\x07\x88\x00", 0x1C, 2048, b"");
-    show_filled(2, sample_counts(), b"\x07\xDF\xFF\xFF\xFF", 0x02, 1500, b"");
-    show_filled(4, sample_counts(), b"\x00\x84\x00\x01", 0x08, 1024, b"");
-    show_filled(4, sample_counts(), b"\x00\x84\x00\x08", 0x16, 1024, b"");
-    show_filled(4, sample_counts(), b"\x10\x01\x84\x00\x01", 0x08, 1024, b"");
-    show_filled(3, sample_counts(), b"\x08\x84\x00\x08", 0x0E, 1024, b"");
-    show_filled(3, sample_counts(), b"\x28\x84\x00\x08", 0x18, 1024, b"");
-    show_filled(0, sample_counts(), b"\x15\x12\x09\x84\x00", 0x08, 1024, b"");
-    show_filled(0, sample_counts(), b"\x15\x12\x09\x8F\xFF", 0x19, 4000, b"");
-    show_filled(
-        1,
-        sample_counts(),
-        b"\x06\x15\x12\x09\x84\x00",
-        0x08,
-        1024,
-        b"",
+// Refusals 6 and 7.
+fn refused_6_7() {
+    show_rows(
+        b"
+# 6: a node deeper than 32.
+0: 1D*32 08
+0: 0F*32 01
+1: 06 1D*31 08
+1: 06 0F*31 0E
+2: 07 01 1D*31 08
+3: 08 00 1D*31 08
+4: 00 00 0F*31 08
+0: 20 06 20 06 20 06 20 06 20 06 20 06 20 06 20 06 20 06 20 06 20 06 20 06 20 06 20 06 20 06 20 06 20 06 20 06 20 06 20 06 20 06 20 06 20 06 20 06 20 06 20 06 20 06 20 06 20 06 20 06 20 06 20 06 08
+0: 1D*31 14 08 01 01 05 00
+0: 1D*31 14 08 01 00 01 05
+0: 1B 00 00 1B 00 00 1B 00 00 1B 00 00 1B 00 00 1B 00 00 1B 00 00 1B 00 00 1B 00 00 1B 00 00 1B 00 00 1B 00 00 1B 00 00 1B 00 00 1B 00 00 1B 00 00 08
+0: 1D*31 1B 00 00 01
+0: 1D*31 15 12 09 01 0E
+# 7: tag 3, or a TypeSpec tag after 11 or 12.
+0: 20 07
+0: 1F 03
+0: 20 06 0F 20 07
+0: 20 06 12 06
+0: 20 06 11 06
+1: 06 12 06
+1: 06 11 0B
+0: 15 12 06 01 08
+0: 15 11 07 01 08
+2: 07 01 20 07
+3: 08 00 12 0A
+4: 00 00 0F 12 0A
+0: 1F BF FF
+",
     );
-    show_filled(0, sample_counts(), b"\x1B\x00\x84\x00\x01", 0x0D, 1024, b"");
 }
 
-// 11: fewer records lent than nodes; success with just enough; a tail is kept.
-fn refusal_11() {
-    show_lent(1, sample_counts(), b"\x06\x08", 0);
-    show_lent(1, sample_counts(), b"\x06\x08", 1);
-    show_lent(1, sample_counts(), b"\x06\x08", 5);
-    show_lent(1, sample_counts(), b"\x06\x08", 6);
-    show_lent(1, sample_counts(), b"\x06\x08", 11);
-    show_lent(0, sample_counts(), b"\x0F\x20\x06\x08", 12);
-    show_lent(0, sample_counts(), b"\x0F\x20\x06\x08", 17);
-    show_lent(0, sample_counts(), b"\x14\x08\x01\x01\x03\x00", 17);
-    show_lent(0, sample_counts(), b"\x15\x12\x09\x01\x0E", 11);
-    show_lent(4, sample_counts(), b"\x20\x01\x01\x12\x49", 17);
-    show_lent(0, sample_counts(), b"\x08", 0);
-    show_lent(0, sample_counts(), b"\x08", 5);
-    show_lent(1, sample_counts(), b"\x06\x08", 12);
-    show_lent(1, sample_counts(), b"\x06\x08", 17);
-    show_lent(0, sample_counts(), b"\x0F\x20\x06\x08", 18);
-    show_lent(0, sample_counts(), b"\x08", 6);
-    show_lent(1, sample_counts(), b"\x06\x08\x08", 0);
-    show_lent(1, sample_counts(), b"\x06", 3);
+// Refusals 8 and 9.
+fn refused_8_9() {
+    show_rows(
+        b"
+# 8: row 0, or a row above its count.
+0: 20 00
+0: 20 01
+0: 20 02
+0: 20 04
+0: 20 4D
+0: 20 0A
+1: 06 12 4D
+1: 06 11 01
+0: 15 12 4D 01 08
+4 0 17 1: 20 01 01 12 49
+0 5 1 5: 1F 09
+0 4 1 5: 1F 14
+0: 1F DF FF FF FD
+# 9: bytes left over.
+1: 06 08 08
+0: 01 00
+0: 08 08
+0: 1D 08 00
+0: 13 80 80 00
+2: 07 01 08 08
+3: 08 00 08 00
+4: 00 00 01 00
+0: 15 12 09 01 0E 0E
+0: 14 08 01 00 00 00
+0: 20 06 16 16
+0: 1B 00 00 01 01
+",
+    );
+}
+
+// Refusals 12 and 13.
+fn refused_12_13() {
+    show_rows(
+        b"
+# 12: an unknown kind.
+5: 06 08
+6:
+7: 08
+8: 0A 01 08
+9: 08
+10: 08
+255: 08
+256: 08
+65536: 08
+2147483647: 08
+2147483648: 08
+4294967295: 08
+5 16777216 0 0: 08
+# 13: a table count above FFFFFF.
+0 16777216 0 0: 08
+0 0 16777216 0: 08
+0 0 0 16777216: 08
+1 4294967295 0 0:
+2 0 4294967295 0:
+3 0 0 4294967295:
+4 2147483648 0 0:
+0 0 2147483648 0: E0
+0 16777215 16777215 16777216: 08
+0 16777216 16777216 16777216: 08
+1 16777215 33554432 0: 06 08
+4 16777216 16777215 16777215: 00 00 01
+0 16777215 16777215 16777215: 08
+",
+    );
+}
+
+// Refusals 10 and 11.
+fn refused_10_11() {
+    show_rows(
+        b"
+# 10: a 1,025th node.
+2: 07 84 00 08*1024
+2: 07 84 01 0E*1025
+2: 07 88 00 1C*2048
+2: 07 DF FF FF FF 02*1500
+4: 00 84 00 01 08*1024
+4: 00 84 00 08 16*1024
+4: 10 01 84 00 01 08*1024
+3: 08 84 00 08 0E*1024
+3: 28 84 00 08 18*1024
+0: 15 12 09 84 00 08*1024
+0: 15 12 09 8F FF 19*4000
+1: 06 15 12 09 84 00 08*1024
+0: 1B 00 84 00 01 0D*1024
+# 11: fewer records lent than nodes; success with just enough; a tail is kept.
+1 0 18 1 0: 06 08
+1 0 18 1 1: 06 08
+1 0 18 1 5: 06 08
+1 0 18 1 6: 06 08
+1 0 18 1 11: 06 08
+0 0 18 1 12: 0F 20 06 08
+0 0 18 1 17: 0F 20 06 08
+0 0 18 1 17: 14 08 01 01 03 00
+0 0 18 1 11: 15 12 09 01 0E
+4 0 18 1 17: 20 01 01 12 49
+0 0 18 1 0: 08
+0 0 18 1 5: 08
+1 0 18 1 12: 06 08
+1 0 18 1 17: 06 08
+0 0 18 1 18: 0F 20 06 08
+0 0 18 1 6: 08
+1 0 18 1 0: 06 08 08
+1 0 18 1 3: 06
+",
+    );
 }
 
 pub fn run() {
-    marked();
-    others();
-    deep();
-    broad();
-    types();
-    roots();
-    refusal_1();
-    refusal_2();
-    refusal_3();
-    refusal_4();
-    refusal_5();
-    refusal_6();
-    refusal_7();
-    refusal_8();
-    refusal_9();
-    refusal_12();
-    refusal_13();
-    refusal_10();
-    refusal_11();
+    bench();
+    accepted();
+    refused_1_2();
+    refused_3_4();
+    refused_5();
+    refused_6_7();
+    refused_8_9();
+    refused_12_13();
+    refused_10_11();
 }

@@ -1,15 +1,17 @@
--- `vectors::writes::shown` is safe and ends. Assumes nothing.
+-- `tables::shown` is safe and ends. Assumes nothing.
 use borrow.Author.Needs.{needs}
-use Prim.Native.Nat.{_-_}
 use mathlib.Core.Path.{sym}
 use lib.Seq.{length-take-le}
-use Rattle.vectors.proofs.writes.shown.Statement.{statement}
-use Rattle.vectors.proofs.writes.shown.Tie as tie
+use Rattle.tables.proofs.shown.Statement.{statement}
+use Rattle.tables.proofs.shown.Tie as tie
 
 pub shown-spec : {M : Type 1} → statement M
 shown-spec =
     tie.close
     (tie.spec
+    (λ c. search needs)
+    (λ c κs. search needs)
+    (λ c. search needs)
     (λ c κs. search needs)
     (λ c. sym (length-take-le _ _ (search needs)))
     (λ c κs. search needs)

@@ -1,10 +1,9 @@
--- `vectors::writes::change` is safe and ends. Assumes nothing.
+-- `tables::change` is safe and ends. Assumes nothing.
 use borrow.Author.Needs.{needs}
-use Prim.Native.Nat.{_-_}
 use mathlib.Core.Path.{sym}
 use lib.Seq.{length-take-le}
-use Rattle.vectors.proofs.writes.change.Statement.{statement}
-use Rattle.vectors.proofs.writes.change.Tie as tie
+use Rattle.tables.proofs.change.Statement.{statement}
+use Rattle.tables.proofs.change.Tie as tie
 
 pub change-spec : {M : Type 1} → statement M
 change-spec =

@@ -1,28 +1,62 @@
-// Tables that were changed, or lent with too little room, each given to the writer, and its answer and bytes printed.
-use crate::cases::KEPT;
-use crate::cases::outcome;
-use crate::cases::sample_counts;
-use crate::print;
+// Tables that were changed, or lent with too little room, each given to the writer: its answer and bytes are printed and held to the file stdout.
+use libc::STDOUT_FILENO;
+use number::token::Counts;
+
+const KEPT: u8 = 0xA5;
+
+fn text(s: &[u8]) {
+    io::write_all(STDOUT_FILENO, s);
+}
+
+// A number behind a label.
+fn number(label: &[u8], n: u64) {
+    text(label);
+    io::print_decimal(STDOUT_FILENO, n);
+}
+
+fn wide(b: u8) -> u64 {
+    b as u64
+}
+
+// Each byte in two digits, a space before it.
+fn bytes(s: &[u8]) {
+    let mut i = 0;
+    while i < s.len() {
+        text(b" ");
+        io::print_hex(STDOUT_FILENO, wide(s[i]), 2);
+        i += 1;
+    }
+}
+
+// Document 01's row counts on the bench.
+fn bench() -> Counts {
+    Counts {
+        defs: 0,
+        refs: 18,
+        specs: 1,
+    }
+}
 
 fn shown(out: &[u8], code: u32, place: usize) {
-    outcome(code, place);
+    number(b"", code as u64);
+    number(b" at ", place as u64);
     if code == 0 {
         if place <= out.len() {
-            print::bytes(&out[..place]);
+            bytes(&out[..place]);
         }
     }
-    print::text(b"\n");
+    text(b"\n");
 }
 
 // A table written where `out` is lent.
 fn write(kind: u32, table: &[u32], out: &mut [u8]) {
-    let answer = writer::write(kind, sample_counts(), table, out);
+    let answer = writer::write(kind, bench(), table, out);
     shown(out, answer.code, answer.place);
 }
 
 // The table of a blob, the number at the index changed.
 fn changed(table: &mut [u32], blob: &[u8], index: usize, value: u32) {
-    reader::read(0, sample_counts(), blob, table);
+    reader::read(0, bench(), blob, table);
     if index < table.len() {
         table[index] = value;
     }
@@ -90,7 +124,7 @@ fn rooms() {
     change(5, b"\x1D\x08", 4, 0x1, 12, 0);
 }
 
-pub fn run() {
+fn main() {
     damaged();
     cut();
     tokens();

@@ -1,25 +1,24 @@
--- `vectors::cases::copy` is safe and ends. Assumes nothing.
+-- `vectors::rows::fill` is safe and ends: what is left of n falls. Assumes nothing.
 use borrow.Author.Needs.{needs}
 use Prim.Native.Nat.{_-_}
 use mathlib.Core.Path.{_≡_, refl}
 use lib.ListN.{length}
-use Rattle.vectors.proofs.cases.copy.Statement.{statement}
-use Rattle.vectors.proofs.cases.copy.Tie as tie
+use Rattle.vectors.proofs.rows.fill.Statement.{statement}
+use Rattle.vectors.proofs.rows.fill.Tie as tie
 
 abbrev Inv-loop : tie.InvT-loop
-Inv-loop dst₀ at src to₀ i₀ dst to i = length dst ≡ length dst₀
+Inv-loop blob₀ len byte n at₀ i₀ blob at i = length blob ≡ length blob₀
 
 abbrev μ-loop : tie.MeasureT-loop
-μ-loop dst₀ at src to₀ i₀ dst to i = length src - i
+μ-loop blob₀ len byte n at₀ i₀ blob at i = n - i
 
-pub copy-spec : {M : Type 1} → statement M
-copy-spec =
+pub fill-spec : {M : Type 1} → statement M
+fill-spec =
     tie.close
     (tie.spec
     Inv-loop
     μ-loop
     (λ c. refl)
-    (λ c. search needs)
     (λ c. search needs)
     (λ c. search needs)
     (λ c. search needs)
