@@ -1,11 +1,13 @@
--- Laws of `numeral`: the ways out of `numeral_to`, and the length.
+-- Laws of `numeral`: the ways out of `numeral_to`, and that a numeral says its number.
 -- Assumes nothing.
-use Prim.Native.Nat.{ℕ, zero, suc, _+_, _-_, _/_, _%_, _<_, _≤_}
-use mathlib.Core.Path.{_≡_, refl, sym, subst}
-use mathlib.Core.List.{List, [], _∷_}
+use Prim.Native.Nat.{ℕ, zero, suc, _+_, _*_, _-_, _/_, _%_, _^_, _<_, _≤_, pow·suc}
+use mathlib.Core.Path.{_≡_, refl, sym, _∙_, subst}
+use mathlib.Core.Bool.{Bool, true, false, cond}
+use mathlib.Core.List.{List, [], _∷_, _++_}
 use native.Mathlib.Omega.{arith}
-use lib.ListN.{length, set}
-use borrow.Author.Tests.{lt-ltb, le-ltb}
+use lib.ListN.{set}
+use lib.Dec.{ltb}
+use borrow.Author.Tests.{lt-ltb, le-ltb, ltb-false}
 use Rattle.sheet.specs.Lines.{numeral}
 use Rattle.sheet.specs.Printing.{next, Prints}
 use Rattle.sheet.proofs.Laying.{prints-none, prints-byte, prints-then}
@@ -27,3 +29,27 @@ numeral-more zero n to r q old mid new ne h p b = absurd (ne refl)
 numeral-more (suc k) n to r q old mid new ne h p b =
     let z : suc k - 1 ≡ k = omega arith in
     rw (le-ltb n 10 h) (prints-then (numeral k (n / 10)) ((48 + n % 10) ∷ []) to r q old mid new (subst (λ j. Prints (numeral j (n / 10)) to r old mid) z p) (prints-byte (48 + n % 10) r mid b))
+
+-- ---- a numeral says its number
+
+-- the number that decimal digits say, read from the left
+abbrev pub says : ℕ → List ℕ → ℕ
+says n [] = n
+says n (d ∷ ds) = says (n * 10 + (d - 48)) ds
+
+says-append : (xs ys : List ℕ) (n : ℕ) → says n (xs ++ ys) ≡ says (says n xs) ys
+says-append [] ys n = refl
+says-append (x ∷ xs) ys n = says-append xs ys (n * 10 + (x - 48))
+
+pub numeral-says : (k n : ℕ) → n < 10 ^ k → says 0 (numeral k n) ≡ n
+unfolding numeral
+numeral-says zero n h = omega arith
+numeral-says (suc k) n h = go (ltb n 10) refl (numeral-says k (n / 10))
+  where
+    go : (b : Bool) → ltb n 10 ≡ b → (n / 10 < 10 ^ k → says 0 (numeral k (n / 10)) ≡ n / 10) → says 0 (cond b ((48 + n) ∷ []) (numeral k (n / 10) ++ ((48 + n % 10) ∷ []))) ≡ n
+    go true e f = omega arith
+    go false e f =
+        let l = ltb-false n 10 e in
+        let p : 10 ^ suc k ≡ 10 ^ k * 10 = pow·suc 10 k in
+        let i = f (omega (arith, h, p)) in
+        says-append (numeral k (n / 10)) ((48 + n % 10) ∷ []) 0 ∙ omega (arith, i)
