@@ -1,7 +1,7 @@
 -- Document 01, "Element bytes (hex)" and "The grammar": the code bytes that each place allows, and what follows each of them.
 use Prim.Native.Nat.{ℕ}
 use mathlib.Core.List.{List, [], _∷_}
-use mathlib.Core.Bool.{Bool, cond, _&&_}
+use mathlib.Core.Bool.{Bool, true, false, cond, _&&_}
 use lib.Dec.{leb}
 use Rattle.element.specs.declared.Place.{Place}
 use Rattle.element.specs.declared.Place.the-variants as Place
@@ -87,3 +87,33 @@ entries Place.MethodDefSig = one 0x10 Generic ∷ one 0x30 Generic ∷ one 0x70 
 
 unfoldable pub formOf : Place → ℕ → Form
 formOf p b = lookup (entries p) b
+
+-- the places of a type, but the first byte of a TypeSpec: all that Bare allows means there what it means in Bare
+abbrev pub plain : Place → Bool
+plain Place.Type = true
+plain Place.Pointee = true
+plain Place.Param = true
+plain Place.RetType = true
+plain Place.Local = true
+plain Place.Pinned = true
+plain Place.TypeSpec = false
+plain Place.ModifiedSpec = true
+plain Place.FnPtrMethod = false
+plain Place.FieldSig = false
+plain Place.LocalVarSig = false
+plain Place.PropertySig = false
+plain Place.MethodDefSig = false
+
+abbrev pub refused : Form → Bool
+refused Refused = true
+refused Leaf = false
+refused Named = false
+refused Variable = false
+refused (Wrap p) = false
+refused (Modified p) = false
+refused (Counted p) = false
+refused Array = false
+refused Instance = false
+refused FnPtr = false
+refused Callable = false
+refused Generic = false

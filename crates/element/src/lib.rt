@@ -1,6 +1,7 @@
 // The element bytes: what may follow a code byte in each place of the grammar. Each place decides the byte by one match.
 ghost use mathlib.Core.Path.{_≡_};
-ghost use Rattle.element.specs.Element.{bare, leads, lookup, formOf};
+ghost use mathlib.Core.Bool.{true};
+ghost use Rattle.element.specs.Element.{bare, leads, lookup, refused, plain, formOf};
 
 // Where in the grammar a node stands.
 pub enum Place {
@@ -230,4 +231,36 @@ pub fn form_of(place: Place, b: u8) -> Form
         Place::PropertySig => property_sig_form(b),
         Place::MethodDefSig => method_def_sig_form(b),
     }
+}
+
+fn is_refused(form: Form) -> bool
+    ensures { λ r. ⌜ r ≡ refused form ⌝ }
+{
+    match form {
+        Form::Refused => true,
+        Form::Leaf => false,
+        Form::Named => false,
+        Form::Variable => false,
+        Form::Wrap(_) => false,
+        Form::Modified(_) => false,
+        Form::Counted(_) => false,
+        Form::Array => false,
+        Form::Instance => false,
+        Form::FnPtr => false,
+        Form::Callable => false,
+        Form::Generic => false,
+    }
+}
+
+// The same in a place of a type. What Bare allows means the same in all of these, so it is looked at first.
+pub fn type_form_of(place: Place, b: u8) -> Form
+    requires { ⌜ plain place ≡ true ⌝ }
+    ensures { λ r. ⌜ r ≡ formOf place b ⌝ }
+{
+    let form = bare_form(b);
+    let other = is_refused(form);
+    if other {
+        return form_of(place, b);
+    }
+    form
 }
