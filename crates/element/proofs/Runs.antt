@@ -13,7 +13,7 @@ use Rattle.element.specs.declared.Form.{Form}
 use Rattle.element.specs.declared.Form.the-variants.{Refused, Wrap}
 use Rattle.element.specs.declared.Place.{Place}
 use Rattle.element.specs.declared.Place.the-variants as Place
-use Rattle.element.specs.Element.{Entry, run, one, within, lookup, bare, mods, void, byRef, typedByRef, entries, formOf, plain, refused}
+use Rattle.element.specs.Element.{Entry, run, one, within, lookup, bare, mods, void, byRef, typedByRef, entries, formOf, refused, typeFormOf, plain}
 
 pub inside : (first last b : ℕ) → first ≤ b → b ≤ last → within first last b ≡ true
 inside first last b l u = simp (le-leb _ _ l, le-leb _ _ u)
@@ -113,7 +113,7 @@ passed (run first last f ∷ es) b t a =
     past first last b f (es ++ bare) (q .0) (q .1) a (passed es b (p .1) a)
 
 -- what Bare allows means the same in each of the plain places
-pub bare-first : (p : Place) (b : ℕ) → plain p ≡ true → refused (lookup bare b) ≡ false → lookup bare b ≡ formOf p b
+bare-first : (p : Place) (b : ℕ) → plain p ≡ true → refused (lookup bare b) ≡ false → lookup bare b ≡ formOf p b
 unfolding formOf entries bare
 bare-first Place.Type b h a = passed (mods Place.Type ∷ []) b tt a
 bare-first Place.Pointee b h a = passed (mods Place.Pointee ∷ void ∷ []) b tt a
@@ -128,3 +128,11 @@ bare-first Place.FieldSig b h a = cc
 bare-first Place.LocalVarSig b h a = cc
 bare-first Place.PropertySig b h a = cc
 bare-first Place.MethodDefSig b h a = cc
+
+pub type-form : (p : Place) (b : ℕ) → plain p ≡ true → typeFormOf p b ≡ formOf p b
+unfolding typeFormOf
+type-form p b h = go (refused (lookup bare b)) refl
+  where
+    go : (t : Bool) → refused (lookup bare b) ≡ t → cond t (formOf p b) (lookup bare b) ≡ formOf p b
+    go true e = refl
+    go false e = bare-first p b h e

@@ -88,7 +88,25 @@ entries Place.MethodDefSig = one 0x10 Generic ∷ one 0x30 Generic ∷ one 0x70 
 unfoldable pub formOf : Place → ℕ → Form
 formOf p b = lookup (entries p) b
 
--- the places of a type, but the first byte of a TypeSpec: all that Bare allows means there what it means in Bare
+abbrev pub refused : Form → Bool
+refused Refused = true
+refused Leaf = false
+refused Named = false
+refused Variable = false
+refused (Wrap p) = false
+refused (Modified p) = false
+refused (Counted p) = false
+refused Array = false
+refused Instance = false
+refused FnPtr = false
+refused Callable = false
+refused Generic = false
+
+-- Bare's form, and the place's where Bare refuses the byte
+unfoldable pub typeFormOf : Place → ℕ → Form
+typeFormOf p b = cond (refused (lookup bare b)) (formOf p b) (lookup bare b)
+
+-- the places of a type, but the first byte of a TypeSpec: there that is the form (proofs/Runs.antt)
 abbrev pub plain : Place → Bool
 plain Place.Type = true
 plain Place.Pointee = true
@@ -103,17 +121,3 @@ plain Place.FieldSig = false
 plain Place.LocalVarSig = false
 plain Place.PropertySig = false
 plain Place.MethodDefSig = false
-
-abbrev pub refused : Form → Bool
-refused Refused = true
-refused Leaf = false
-refused Named = false
-refused Variable = false
-refused (Wrap p) = false
-refused (Modified p) = false
-refused (Counted p) = false
-refused Array = false
-refused Instance = false
-refused FnPtr = false
-refused Callable = false
-refused Generic = false

@@ -1,7 +1,6 @@
 // The element bytes: what may follow a code byte in each place of the grammar. Each place decides the byte by one match.
 ghost use mathlib.Core.Path.{_≡_};
-ghost use mathlib.Core.Bool.{true};
-ghost use Rattle.element.specs.Element.{bare, leads, lookup, refused, plain, formOf};
+ghost use Rattle.element.specs.Element.{bare, leads, lookup, formOf, refused, typeFormOf};
 
 // Where in the grammar a node stands.
 pub enum Place {
@@ -252,10 +251,9 @@ fn is_refused(form: Form) -> bool
     }
 }
 
-// The same in a place of a type. What Bare allows means the same in all of these, so it is looked at first.
+// What Bare allows means the same in all places of a type: it is looked at first, and the place only where Bare refuses.
 pub fn type_form_of(place: Place, b: u8) -> Form
-    requires { ⌜ plain place ≡ true ⌝ }
-    ensures { λ r. ⌜ r ≡ formOf place b ⌝ }
+    ensures { λ r. ⌜ r ≡ typeFormOf place b ⌝ }
 {
     let form = bare_form(b);
     let other = is_refused(form);

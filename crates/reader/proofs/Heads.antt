@@ -16,8 +16,9 @@ use Rattle.number.specs.declared.checked.Checked.{Checked}
 use Rattle.number.specs.declared.checked.Checked.the-variants.{Good, Bad}
 use Rattle.number.specs.declared.token.Counts.{Counts}
 use Rattle.number.proofs.Laws.{decoded, onward}
-use Rattle.element.specs.Element.{within, formOf}
+use Rattle.element.specs.Element.{within, formOf, plain}
 use Rattle.element.specs.declared.Place.{Place}
+use Rattle.element.specs.declared.Place.the-variants as Place
 use Rattle.element.specs.declared.Form.{Form}
 use Rattle.element.specs.declared.Form.the-variants.{Instance}
 use Rattle.element.proofs.Runs.{inside, outside}
@@ -25,7 +26,7 @@ use Rattle.grammar.specs.Limits.{maxNodes}
 use Rattle.grammar.specs.Table.{kindOf}
 use Rattle.grammar.specs.Judge.{allowed}
 use Rattle.grammar.proofs.Sound.{both-right}
-use Rattle.reader.specs.Open.{codeAt, opening, instanceOf, headOf, openOf, leading, leadForm, leadOf}
+use Rattle.reader.specs.Open.{codeOf, codeAt, opening, instanceOf, headOf, openOf, leading, leadForm, leadOf}
 use Rattle.reader.specs.declared.open.Code.{Code}
 use Rattle.reader.specs.declared.open.Code.the-variants as Code
 use Rattle.reader.specs.declared.open.Open.{Open}
@@ -88,30 +89,34 @@ count-most low high s at v next y e g = go (checkedAt s at) (sym e ∙ g)
     go (Good x z) h = inner x z (leb low x && leb x high) (λ q. leb-true x high (both-right (leb low x) _ q)) h
     go (Bad c) h = let z : _≡_ {A = ℕ} 0 1 = cc in absurd (omega arith)
 
--- ---- code_at
+-- ---- code_of and code_at
+
+module _ (d : ℕ) (f : Form) (b n : ℕ) (a : Bool) (t : a ≡ allowed f) where
+  pub code-refused : a ≡ false → Code.Shut 5 ≡ codeOf d f b n
+  unfolding codeOf
+  code-refused g = rw (sym t ∙ g)
+
+  module _ (g : a ≡ true) where
+    pub code-deep : d ≡ 0 → Code.Shut 6 ≡ codeOf d f b n
+    unfolding codeOf
+    code-deep z = rw (sym t ∙ g, z)
+
+    pub code-full : (d ≡ 0 → ⊥) → maxNodes ≤ n → Code.Shut 10 ≡ codeOf d f b n
+    unfolding codeOf
+    code-full z m = let i : 1 ≤ d = omega arith in rw (sym t ∙ g, le-leb 1 d i, le-ltb n maxNodes m)
+
+    pub code-opens : (d ≡ 0 → ⊥) → n < maxNodes → Code.Opens b f ≡ codeOf d f b n
+    unfolding codeOf
+    code-opens z m = let i : 1 ≤ d = omega arith in rw (sym t ∙ g, le-leb 1 d i, lt-ltb n maxNodes m)
 
 module _ (d : ℕ) (s : List ℕ) (p : Place) (at n : ℕ) where
   pub code-none : length s ≤ at → Code.Shut 2 ≡ codeAt d s p at n
   unfolding codeAt
   code-none h = rw (le-ltb at (length s) h)
 
-  module _ (f : Form) (h : at < length s) (e : f ≡ formOf p (getD s at 0)) (a : Bool) (t : a ≡ allowed f) where
-    pub code-refused : a ≡ false → Code.Shut 5 ≡ codeAt d s p at n
-    unfolding codeAt
-    code-refused g = rw (lt-ltb at (length s) h, ← e, sym t ∙ g)
-
-    module _ (g : a ≡ true) where
-      pub code-deep : d ≡ 0 → Code.Shut 6 ≡ codeAt d s p at n
-      unfolding codeAt
-      code-deep z = rw (lt-ltb at (length s) h, ← e, sym t ∙ g, z)
-
-      pub code-full : (d ≡ 0 → ⊥) → maxNodes ≤ n → Code.Shut 10 ≡ codeAt d s p at n
-      unfolding codeAt
-      code-full z m = let i : 1 ≤ d = omega arith in rw (lt-ltb at (length s) h, ← e, sym t ∙ g, le-leb 1 d i, le-ltb n maxNodes m)
-
-      pub code-opens : (d ≡ 0 → ⊥) → n < maxNodes → Code.Opens (getD s at 0) f ≡ codeAt d s p at n
-      unfolding codeAt
-      code-opens z m = let i : 1 ≤ d = omega arith in rw (lt-ltb at (length s) h, ← e, sym t ∙ g, le-leb 1 d i, lt-ltb n maxNodes m)
+  pub code-some : (f : Form) (y : Code) → at < length s → f ≡ formOf p (getD s at 0) → y ≡ codeOf d f (getD s at 0) n → y ≡ codeAt d s p at n
+  unfolding codeAt
+  code-some f y h e g = rw (lt-ltb at (length s) h, ← e) g
 
 -- ---- open_at and lead_at
 
@@ -138,6 +143,25 @@ module _ (d : ℕ) (s : List ℕ) (p : Place) (at n : ℕ) (y : Code) (e : y ≡
     pub lead-form : (k : ℕ) (o : Lead) → k ≡ kindOf p b → o ≡ leadForm f s k b at → o ≡ leadOf d s p at n
     unfolding leadOf
     lead-form k o q h = rw (sym e ∙ g, ← q) h
+
+pub open-none : (d : ℕ) (s : List ℕ) (p : Place) (at n : ℕ) (counts : Counts) → length s ≤ at → Open.Shut 2 at ≡ openOf d counts s p at n
+open-none d s p at n counts h = open-shut d s p at n _ (code-none d s p at n h) counts 2 refl
+
+-- in a place of a type the kind is the byte
+pub plain-kind : (p : Place) (b : ℕ) → plain p ≡ true → b ≡ kindOf p b
+plain-kind Place.Type b h = refl
+plain-kind Place.Pointee b h = refl
+plain-kind Place.Param b h = refl
+plain-kind Place.RetType b h = refl
+plain-kind Place.Local b h = refl
+plain-kind Place.Pinned b h = refl
+plain-kind Place.TypeSpec b h = refl
+plain-kind Place.ModifiedSpec b h = refl
+plain-kind Place.FnPtrMethod b h = cc
+plain-kind Place.FieldSig b h = cc
+plain-kind Place.LocalVarSig b h = cc
+plain-kind Place.PropertySig b h = cc
+plain-kind Place.MethodDefSig b h = cc
 
 -- ---- instance_at
 

@@ -1,10 +1,21 @@
 -- `element::type_form_of` meets its contract. Assumes nothing.
-use mathlib.Core.Path.{sym, ap, _∙_}
+use mathlib.Core.Path.{sym, _∙_}
 use borrow.Author.Needs.{needs}
-use Rattle.element.specs.Element.{refused}
-use Rattle.element.proofs.Runs.{bare-first}
+use Rattle.element.specs.Element.{typeFormOf}
 use Rattle.element.proofs.type_form_of.Statement.{statement}
 use Rattle.element.proofs.type_form_of.Tie as tie
+
+returns : tie.Need-returns
+unfolding typeFormOf
+returns c =
+    let e = c .before .before .before .bare-form .ensures in
+    rw (← e, sym (c .before .before .is-refused .ensures) ∙ c .before .if1 .taken) (c .form-of .ensures)
+
+returns-2 : tie.Need-returns-2
+unfolding typeFormOf
+returns-2 c =
+    let e = c .before .before .bare-form .ensures in
+    rw (← e, sym (c .before .is-refused .ensures) ∙ c .if1 .left)
 
 pub type-form-of-spec : {M : Type 1} → statement M
 type-form-of-spec =
@@ -13,7 +24,5 @@ type-form-of-spec =
     (λ c κs. search needs)
     (λ c κs. search needs)
     (λ c κs. search needs)
-    (λ c. search needs)
-    (λ c.
-    let e = c .before .before .bare-form .ensures in
-    e ∙ bare-first _ _ (c .before .before .before .pre) (sym (ap refused e) ∙ sym (c .before .is-refused .ensures) ∙ c .if1 .left)))
+    returns
+    returns-2)
