@@ -10,10 +10,10 @@ use native.Mathlib.Omega.{arith}
 use lib.Dec.{T, leb, ltb, leb→le, ltb→lt}
 use borrow.Author.Tests.{leb-true, le-leb}
 use Rattle.element.specs.declared.Form.{Form}
-use Rattle.element.specs.declared.Form.the-variants.{Refused, Wrap}
+use Rattle.element.specs.declared.Form.the-variants.{Refused, Wrap, Modified}
 use Rattle.element.specs.declared.Place.{Place}
 use Rattle.element.specs.declared.Place.the-variants as Place
-use Rattle.element.specs.Element.{Entry, run, one, within, lookup, bare, mods, void, byRef, typedByRef, entries, formOf, refused, typeFormOf, plain}
+use Rattle.element.specs.Element.{Entry, run, one, within, lookup, bare, mods, void, byRef, typedByRef, entries, formOf, refused, behindOf, restFormOf, typeFormOf, plain}
 
 pub inside : (first last b : ℕ) → first ≤ b → b ≤ last → within first last b ≡ true
 inside first last b l u = simp (le-leb _ _ l, le-leb _ _ u)
@@ -129,10 +129,35 @@ bare-first Place.LocalVarSig b h a = cc
 bare-first Place.PropertySig b h a = cc
 bare-first Place.MethodDefSig b h a = cc
 
+module _ (b : ℕ) (e : within 0x1F 0x20 b ≡ true) where
+  modified : (p : Place) → plain p ≡ true → Modified (behindOf p) ≡ formOf p b
+  unfolding formOf entries
+  modified Place.Type h = rw e
+  modified Place.Pointee h = rw e
+  modified Place.Param h = rw e
+  modified Place.RetType h = rw e
+  modified Place.Local h = rw e
+  modified Place.Pinned h = let i = within-true 0x1F 0x20 b e in rw (e, outside 0x10 0x10 b (λ l u. omega (arith, i)))
+  modified Place.TypeSpec h = cc
+  modified Place.ModifiedSpec h = rw e
+  modified Place.FnPtrMethod h = cc
+  modified Place.FieldSig h = cc
+  modified Place.LocalVarSig h = cc
+  modified Place.PropertySig h = cc
+  modified Place.MethodDefSig h = cc
+
+rest-form : (p : Place) (b : ℕ) → plain p ≡ true → restFormOf p b ≡ formOf p b
+unfolding restFormOf
+rest-form p b h = go (within 0x1F 0x20 b) refl
+  where
+    go : (t : Bool) → within 0x1F 0x20 b ≡ t → cond t (Modified (behindOf p)) (formOf p b) ≡ formOf p b
+    go true e = modified b e p h
+    go false e = refl
+
 pub type-form : (p : Place) (b : ℕ) → plain p ≡ true → typeFormOf p b ≡ formOf p b
 unfolding typeFormOf
 type-form p b h = go (refused (lookup bare b)) refl
   where
-    go : (t : Bool) → refused (lookup bare b) ≡ t → cond t (formOf p b) (lookup bare b) ≡ formOf p b
-    go true e = refl
+    go : (t : Bool) → refused (lookup bare b) ≡ t → cond t (restFormOf p b) (lookup bare b) ≡ formOf p b
+    go true e = rest-form p b h
     go false e = bare-first p b h e

@@ -102,9 +102,29 @@ refused FnPtr = false
 refused Callable = false
 refused Generic = false
 
--- Bare's form, and the place's where Bare refuses the byte
+-- the place behind a modifier
+abbrev pub behindOf : Place → Place
+behindOf Place.Type = Place.Type
+behindOf Place.Pointee = Place.Pointee
+behindOf Place.Param = Place.Param
+behindOf Place.RetType = Place.RetType
+behindOf Place.Local = Place.Local
+behindOf Place.Pinned = Place.Type
+behindOf Place.TypeSpec = Place.ModifiedSpec
+behindOf Place.ModifiedSpec = Place.ModifiedSpec
+behindOf Place.FnPtrMethod = Place.FnPtrMethod
+behindOf Place.FieldSig = Place.FieldSig
+behindOf Place.LocalVarSig = Place.LocalVarSig
+behindOf Place.PropertySig = Place.PropertySig
+behindOf Place.MethodDefSig = Place.MethodDefSig
+
+-- a modifier's form, or the place's
+unfoldable pub restFormOf : Place → ℕ → Form
+restFormOf p b = cond (within 0x1F 0x20 b) (Modified (behindOf p)) (formOf p b)
+
+-- Bare's form, or where Bare refuses the byte that
 unfoldable pub typeFormOf : Place → ℕ → Form
-typeFormOf p b = cond (refused (lookup bare b)) (formOf p b) (lookup bare b)
+typeFormOf p b = cond (refused (lookup bare b)) (restFormOf p b) (lookup bare b)
 
 -- the places of a type, but the first byte of a TypeSpec: there that is the form (proofs/Runs.antt)
 abbrev pub plain : Place → Bool

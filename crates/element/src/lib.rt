@@ -1,6 +1,6 @@
 // The element bytes: what may follow a code byte in each place of the grammar. Each place decides the byte by one match.
 ghost use mathlib.Core.Path.{_≡_};
-ghost use Rattle.element.specs.Element.{bare, leads, lookup, formOf, refused, typeFormOf};
+ghost use Rattle.element.specs.Element.{bare, leads, lookup, formOf, refused, behindOf, restFormOf, typeFormOf};
 
 // Where in the grammar a node stands.
 pub enum Place {
@@ -251,14 +251,48 @@ fn is_refused(form: Form) -> bool
     }
 }
 
-// What Bare allows means the same in all places of a type: it is looked at first, and the place only where Bare refuses.
+// The place behind a modifier that stands in a place of a type.
+fn behind(place: Place) -> Place
+    ensures { λ r. ⌜ r ≡ behindOf place ⌝ }
+{
+    match place {
+        Place::Type => Place::Type,
+        Place::Pointee => Place::Pointee,
+        Place::Param => Place::Param,
+        Place::RetType => Place::RetType,
+        Place::Local => Place::Local,
+        Place::Pinned => Place::Type,
+        Place::TypeSpec => Place::ModifiedSpec,
+        Place::ModifiedSpec => Place::ModifiedSpec,
+        Place::FnPtrMethod => Place::FnPtrMethod,
+        Place::FieldSig => Place::FieldSig,
+        Place::LocalVarSig => Place::LocalVarSig,
+        Place::PropertySig => Place::PropertySig,
+        Place::MethodDefSig => Place::MethodDefSig,
+    }
+}
+
+// A modifier stands in every place of a type; what else Bare refuses is for the place to say.
+fn rest_form(place: Place, b: u8) -> Form
+    ensures { λ r. ⌜ r ≡ restFormOf place b ⌝ }
+{
+    match b {
+        0x1F | 0x20 => {
+            let child = behind(place);
+            Form::Modified(child)
+        }
+        _ => form_of(place, b),
+    }
+}
+
+// What Bare allows means the same in all places of a type: it is looked at first.
 pub fn type_form_of(place: Place, b: u8) -> Form
     ensures { λ r. ⌜ r ≡ typeFormOf place b ⌝ }
 {
     let form = bare_form(b);
     let other = is_refused(form);
     if other {
-        return form_of(place, b);
+        return rest_form(place, b);
     }
     form
 }

@@ -9,7 +9,7 @@ returns : tie.Need-returns
 unfolding typeFormOf
 returns c =
     let e = c .before .before .before .bare-form .ensures in
-    rw (← e, sym (c .before .before .is-refused .ensures) ∙ c .before .if1 .taken) (c .form-of .ensures)
+    rw (← e, sym (c .before .before .is-refused .ensures) ∙ c .before .if1 .taken) (c .rest-form .ensures)
 
 returns-2 : tie.Need-returns-2
 unfolding typeFormOf
