@@ -141,3 +141,19 @@ plain Place.FieldSig = false
 plain Place.LocalVarSig = false
 plain Place.PropertySig = false
 plain Place.MethodDefSig = false
+
+-- the form in a place of a method; in any other no byte is a lead byte
+abbrev pub leadFormOf : Place → ℕ → Form
+leadFormOf Place.Type b = Refused
+leadFormOf Place.Pointee b = Refused
+leadFormOf Place.Param b = Refused
+leadFormOf Place.RetType b = Refused
+leadFormOf Place.Local b = Refused
+leadFormOf Place.Pinned b = Refused
+leadFormOf Place.TypeSpec b = Refused
+leadFormOf Place.ModifiedSpec b = Refused
+leadFormOf Place.FnPtrMethod b = formOf Place.FnPtrMethod b
+leadFormOf Place.FieldSig b = Refused
+leadFormOf Place.LocalVarSig b = Refused
+leadFormOf Place.PropertySig b = formOf Place.PropertySig b
+leadFormOf Place.MethodDefSig b = formOf Place.MethodDefSig b

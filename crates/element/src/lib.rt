@@ -1,6 +1,6 @@
 // The element bytes: what may follow a code byte in each place of the grammar. Each place decides the byte by one match.
 ghost use mathlib.Core.Path.{_≡_};
-ghost use Rattle.element.specs.Element.{bare, leads, lookup, formOf, refused, behindOf, restFormOf, typeFormOf};
+ghost use Rattle.element.specs.Element.{bare, leads, lookup, formOf, refused, behindOf, restFormOf, typeFormOf, leadFormOf};
 
 // Where in the grammar a node stands.
 pub enum Place {
@@ -149,7 +149,7 @@ fn pinned_form(b: u8) -> Form
     }
 }
 
-fn type_spec_form(b: u8) -> Form
+pub fn type_spec_form(b: u8) -> Form
     ensures { λ r. ⌜ r ≡ formOf Place.TypeSpec b ⌝ }
 {
     match b {
@@ -172,7 +172,7 @@ fn modified_spec_form(b: u8) -> Form
     }
 }
 
-fn field_sig_form(b: u8) -> Form
+pub fn field_sig_form(b: u8) -> Form
     ensures { λ r. ⌜ r ≡ formOf Place.FieldSig b ⌝ }
 {
     match b {
@@ -181,7 +181,7 @@ fn field_sig_form(b: u8) -> Form
     }
 }
 
-fn local_var_sig_form(b: u8) -> Form
+pub fn local_var_sig_form(b: u8) -> Form
     ensures { λ r. ⌜ r ≡ formOf Place.LocalVarSig b ⌝ }
 {
     match b {
@@ -295,4 +295,25 @@ pub fn type_form_of(place: Place, b: u8) -> Form
         return rest_form(place, b);
     }
     form
+}
+
+// What follows a method's lead byte `b` in its place; all else is refused.
+pub fn lead_form_of(place: Place, b: u8) -> Form
+    ensures { λ r. ⌜ r ≡ leadFormOf place b ⌝ }
+{
+    match place {
+        Place::FnPtrMethod => lead_form(b),
+        Place::PropertySig => property_sig_form(b),
+        Place::MethodDefSig => method_def_sig_form(b),
+        Place::Type => Form::Refused,
+        Place::Pointee => Form::Refused,
+        Place::Param => Form::Refused,
+        Place::RetType => Form::Refused,
+        Place::Local => Form::Refused,
+        Place::Pinned => Form::Refused,
+        Place::TypeSpec => Form::Refused,
+        Place::ModifiedSpec => Form::Refused,
+        Place::FieldSig => Form::Refused,
+        Place::LocalVarSig => Form::Refused,
+    }
 }

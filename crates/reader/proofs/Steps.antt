@@ -37,6 +37,7 @@ use Rattle.reader.specs.declared.walk.Walk.{Walk}
 use Rattle.reader.specs.declared.walk.Walk.the-variants.{Next, Stop}
 use Rattle.reader.proofs.Stamp.{length-stamp}
 use Rattle.reader.proofs.Opens.{sealed, bind-sealed, many-one, onOpen, onLead, Begun, begun, code-begun, Begins, node-open, open-begins, node-lead, node-shut, spec-node, field-node, locals-node}
+use Rattle.reader.proofs.Heads.{code-none}
 use Rattle.reader.proofs.Laws.{clash, walked-fault, walked-is, found, still, walked-seal, walked-stop, walked-then, walked-next, walked-small}
 
 -- ---- bound_at. y is what the call gave, and its contract says that it is `checkedAt`
@@ -203,7 +204,10 @@ module _ (d : ℕ) (s : List ℕ) (counts : Counts) (p : Place) (at n : ℕ) (t 
             (walked-then _ (many (node (d - 1) s counts Place.Param) c) (n + 1) e₁ m w₂ o₀ o₁ o₂ (ends-node s (d - 1) counts Place.RetType next (n + 1)) (found _ (n + 1) w _ o₀ o₁ u x) z)
             q)
 
--- ---- spec_at, field_at and locals_at. y is what `code_at` gave
+-- ---- spec_at, field_at and locals_at. y is what `code_of` gave
+
+pub root-none : (d : ℕ) (s : List ℕ) (counts : Counts) (p : Place) (at n : ℕ) (o : List ℕ) → length s ≤ at → Walked (node d s counts p at n) n (Stop 2 at) o o
+root-none d s counts p at n o h = walked-fault _ n 2 at o (node-shut s counts p at n d 2 (sym (code-none d s p at n h)))
 
 module _ (d : ℕ) (s : List ℕ) (counts : Counts) (p : Place) (at n : ℕ) (y : Code) (e : y ≡ codeAt d s p at n) where
   pub root-stop : (c : ℕ) (o : List ℕ) → y ≡ Code.Shut c → Walked (node d s counts p at n) n (Stop c at) o o

@@ -6,7 +6,8 @@ ghost use mathlib.Core.Bool.{true};
 ghost use Rattle.element.specs.Element.{plain};
 ghost use Rattle.grammar.specs.Table.{kindOf};
 ghost use Rattle.grammar.specs.Judge.{allowed};
-ghost use Rattle.reader.specs.Open.{codeOf, codeAt, instanceOf, headOf, openOf, callOf, genericOf, leadForm, leadOf};
+ghost use Rattle.reader.specs.Walk.{called};
+ghost use Rattle.reader.specs.Open.{codeOf, instanceOf, headOf, openOf, callOf, genericOf, leadForm, leadOf};
 use element::Form;
 use element::Place;
 use grammar::MAX_NODES;
@@ -112,7 +113,7 @@ fn kind_of(place: Place, byte: u8) -> u32
 }
 
 // The refusals at a code byte that is there, in order: 5, 6, 10.
-fn code_of(form: Form, byte: u8, n: usize, d: usize) -> Code
+pub fn code_of(form: Form, byte: u8, n: usize, d: usize) -> Code
     ensures { λ r. ⌜ r ≡ codeOf d form byte n ⌝ }
 {
     let good = is_allowed(form);
@@ -126,18 +127,6 @@ fn code_of(form: Form, byte: u8, n: usize, d: usize) -> Code
         return Code::Opens { byte, form };
     }
     Code::Shut { code: 5 }
-}
-
-// The refusals at a code byte, in order: 2, 5, 6, 10.
-pub fn code_at(src: &[u8], place: Place, at: usize, n: usize, d: usize) -> Code
-    ensures { λ r. ⌜ r ≡ codeAt d (now (src .entry)) place at n ⌝ }
-{
-    if src.len() <= at {
-        return Code::Shut { code: 2 };
-    }
-    let byte = src[at];
-    let form = element::form_of(place, byte);
-    code_of(form, byte, n, d)
 }
 
 // VALUETYPE or CLASS: a TypeDef or TypeRef token.
@@ -374,13 +363,19 @@ fn lead_of(src: &[u8], form: Form, kind: u32, byte: u8, at: usize) -> Lead
 
 // A method up to its return type: its lead byte, its generic count where it has one, and its ParamCount.
 pub fn lead_at(src: &[u8], place: Place, at: usize, n: usize, d: usize) -> Lead
+    requires { ⌜ called place ≡ true ⌝ }
     ensures { λ r. ⌜ r ≡ leadOf d (now (src .entry)) place at n ⌝ }
 {
-    match code_at(src, place, at, n, d) {
+    if src.len() <= at {
+        return Lead::Shut { code: 2, place: at };
+    }
+    let byte = src[at];
+    let form = element::lead_form_of(place, byte);
+    match code_of(form, byte, n, d) {
         Code::Shut { code } => Lead::Shut { code, place: at },
-        Code::Opens { byte, form } => {
-            let kind = kind_of(place, byte);
-            lead_of(src, form, kind, byte, at)
+        Code::Opens { byte: b, form: f } => {
+            let kind = kind_of(place, b);
+            lead_of(src, f, kind, b, at)
         }
     }
 }

@@ -349,7 +349,12 @@ fn spec_at(out: &mut [u32], counts: Counts, src: &[u8]) -> Walk
     requires { ⌜ length (now src) ≤ 4096 ⌝ }
     ensures { λ r. ⌜ Walked (node 32 (now (src .entry)) counts Place.TypeSpec 0 0) 0 r (now (out .entry)) (now (out .exit)) ⌝ }
 {
-    match open::code_at(src, Place::TypeSpec, 0, 0, MAX_DEPTH) {
+    if src.len() == 0 {
+        return Walk::Stop { code: 2, place: 0 };
+    }
+    let first = src[0];
+    let form = element::type_spec_form(first);
+    match open::code_of(form, first, 0, MAX_DEPTH) {
         Code::Shut { code } => Walk::Stop { code, place: 0 },
         Code::Opens { byte: _, form: _ } => {
             type_at(out, MAX_DEPTH, src, counts, Place::ModifiedSpec, 0, 0)
@@ -362,7 +367,12 @@ fn field_at(out: &mut [u32], counts: Counts, src: &[u8]) -> Walk
     requires { ⌜ length (now src) ≤ 4096 ⌝ }
     ensures { λ r. ⌜ Walked (node 32 (now (src .entry)) counts Place.FieldSig 0 0) 0 r (now (out .entry)) (now (out .exit)) ⌝ }
 {
-    match open::code_at(src, Place::FieldSig, 0, 0, MAX_DEPTH) {
+    if src.len() == 0 {
+        return Walk::Stop { code: 2, place: 0 };
+    }
+    let first = src[0];
+    let form = element::field_sig_form(first);
+    match open::code_of(form, first, 0, MAX_DEPTH) {
         Code::Shut { code } => Walk::Stop { code, place: 0 },
         Code::Opens { byte: _, form: _ } => {
             let w = type_at(out, MAX_DEPTH - 1, src, counts, Place::Type, 1, 1);
@@ -382,7 +392,12 @@ fn locals_at(out: &mut [u32], counts: Counts, src: &[u8]) -> Walk
     requires { ⌜ length (now src) ≤ 4096 ⌝ }
     ensures { λ r. ⌜ Walked (node 32 (now (src .entry)) counts Place.LocalVarSig 0 0) 0 r (now (out .entry)) (now (out .exit)) ⌝ }
 {
-    match open::code_at(src, Place::LocalVarSig, 0, 0, MAX_DEPTH) {
+    if src.len() == 0 {
+        return Walk::Stop { code: 2, place: 0 };
+    }
+    let first = src[0];
+    let form = element::local_var_sig_form(first);
+    match open::code_of(form, first, 0, MAX_DEPTH) {
         Code::Shut { code } => Walk::Stop { code, place: 0 },
         Code::Opens { byte: _, form: _ } => match number::checked::count_at(src, 1, 1, MAX_NUMBER) {
             Checked::Good { value, next } => {

@@ -153,7 +153,7 @@ pub +array-at+method-at+type-at+types-at-spec : {M : Type 1} → statement M
     )
     (method-at-at t)
     method-at.Post
-    (λ c κs. search needs)
+    (λ c κs. c .before .before .pre .1 .1)
     (λ c. search needs)
     (λ c. search needs)
     (λ c. omega (arith, method-bounds _ _ _ _ _ _ (c .before .before .before .before .lead-at .ensures) _ _ _ (c .before .before .head .given .1)))
