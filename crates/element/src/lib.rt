@@ -1,6 +1,7 @@
 // The element bytes: what may follow a code byte in each place of the grammar. Each place decides the byte by one match.
 ghost use mathlib.Core.Path.{_≡_};
 ghost use Rattle.element.specs.Element.{bare, leads, lookup, formOf};
+ghost use Rattle.element.specs.Decided.{refused, behindOf, restFormOf, typeFormOf, leadFormOf};
 
 // Where in the grammar a node stands.
 pub enum Place {
@@ -149,7 +150,7 @@ fn pinned_form(b: u8) -> Form
     }
 }
 
-fn type_spec_form(b: u8) -> Form
+pub fn type_spec_form(b: u8) -> Form
     ensures { λ r. ⌜ r ≡ formOf Place.TypeSpec b ⌝ }
 {
     match b {
@@ -172,7 +173,7 @@ fn modified_spec_form(b: u8) -> Form
     }
 }
 
-fn field_sig_form(b: u8) -> Form
+pub fn field_sig_form(b: u8) -> Form
     ensures { λ r. ⌜ r ≡ formOf Place.FieldSig b ⌝ }
 {
     match b {
@@ -181,7 +182,7 @@ fn field_sig_form(b: u8) -> Form
     }
 }
 
-fn local_var_sig_form(b: u8) -> Form
+pub fn local_var_sig_form(b: u8) -> Form
     ensures { λ r. ⌜ r ≡ formOf Place.LocalVarSig b ⌝ }
 {
     match b {
@@ -229,5 +230,91 @@ pub fn form_of(place: Place, b: u8) -> Form
         Place::LocalVarSig => local_var_sig_form(b),
         Place::PropertySig => property_sig_form(b),
         Place::MethodDefSig => method_def_sig_form(b),
+    }
+}
+
+fn is_refused(form: Form) -> bool
+    ensures { λ r. ⌜ r ≡ refused form ⌝ }
+{
+    match form {
+        Form::Refused => true,
+        Form::Leaf => false,
+        Form::Named => false,
+        Form::Variable => false,
+        Form::Wrap(_) => false,
+        Form::Modified(_) => false,
+        Form::Counted(_) => false,
+        Form::Array => false,
+        Form::Instance => false,
+        Form::FnPtr => false,
+        Form::Callable => false,
+        Form::Generic => false,
+    }
+}
+
+// The place behind a modifier that stands in a place of a type.
+fn behind(place: Place) -> Place
+    ensures { λ r. ⌜ r ≡ behindOf place ⌝ }
+{
+    match place {
+        Place::Type => Place::Type,
+        Place::Pointee => Place::Pointee,
+        Place::Param => Place::Param,
+        Place::RetType => Place::RetType,
+        Place::Local => Place::Local,
+        Place::Pinned => Place::Type,
+        Place::TypeSpec => Place::ModifiedSpec,
+        Place::ModifiedSpec => Place::ModifiedSpec,
+        Place::FnPtrMethod => Place::FnPtrMethod,
+        Place::FieldSig => Place::FieldSig,
+        Place::LocalVarSig => Place::LocalVarSig,
+        Place::PropertySig => Place::PropertySig,
+        Place::MethodDefSig => Place::MethodDefSig,
+    }
+}
+
+// A modifier stands in every place of a type; what else Bare refuses is for the place to say.
+fn rest_form(place: Place, b: u8) -> Form
+    ensures { λ r. ⌜ r ≡ restFormOf place b ⌝ }
+{
+    match b {
+        0x1F | 0x20 => {
+            let child = behind(place);
+            Form::Modified(child)
+        }
+        _ => form_of(place, b),
+    }
+}
+
+// What Bare allows means the same in all places of a type: it is looked at first.
+pub fn type_form_of(place: Place, b: u8) -> Form
+    ensures { λ r. ⌜ r ≡ typeFormOf place b ⌝ }
+{
+    let form = bare_form(b);
+    let other = is_refused(form);
+    if other {
+        return rest_form(place, b);
+    }
+    form
+}
+
+// What follows a method's lead byte `b` in its place; all else is refused.
+pub fn lead_form_of(place: Place, b: u8) -> Form
+    ensures { λ r. ⌜ r ≡ leadFormOf place b ⌝ }
+{
+    match place {
+        Place::FnPtrMethod => lead_form(b),
+        Place::PropertySig => property_sig_form(b),
+        Place::MethodDefSig => method_def_sig_form(b),
+        Place::Type => Form::Refused,
+        Place::Pointee => Form::Refused,
+        Place::Param => Form::Refused,
+        Place::RetType => Form::Refused,
+        Place::Local => Form::Refused,
+        Place::Pinned => Form::Refused,
+        Place::TypeSpec => Form::Refused,
+        Place::ModifiedSpec => Form::Refused,
+        Place::FieldSig => Form::Refused,
+        Place::LocalVarSig => Form::Refused,
     }
 }

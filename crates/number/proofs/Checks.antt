@@ -1,8 +1,9 @@
 -- What the checks of a number give, from facts about the numbers: one law for each way out.
 -- Assumes nothing.
-use Prim.Native.Nat.{ℕ, _/_, _%_, _≤_, _<_}
-use mathlib.Core.Path.{_≡_}
+use Prim.Native.Nat.{ℕ, _+_, _/_, _%_, _≤_, _<_}
+use mathlib.Core.Path.{_≡_, sym}
 use mathlib.Core.List.{List}
+use lib.ListN.{length, getD}
 use native.Mathlib.Omega.{arith}
 use borrow.Author.Tests.{le-leb, lt-leb, lt-ltb, le-ltb}
 use Rattle.number.specs.Number.{numberAt}
@@ -12,12 +13,17 @@ use Rattle.number.specs.declared.Number.{Number}
 use Rattle.number.specs.declared.checked.Checked.{Checked}
 use Rattle.number.specs.declared.checked.Checked.the-variants.{Good, Bad}
 use Rattle.number.specs.declared.token.Counts.{Counts}
+use Rattle.number.proofs.Cases.{one-byte}
 
 module _ (s : List ℕ) (at : ℕ) where
   -- what a number is checked to, by the number
   pub checks : {n o : Number} → o ≡ numberAt s at → o ≡ n → checked n ≡ checkedAt s at
   unfolding checkedAt
   checks e f = rw (← e, f)
+
+  pub check-small : (v : ℕ) → at < length s → v ≡ getD s at 0 → v < 0x80 → Good v (at + 1) ≡ checkedAt s at
+  unfolding checkedAt checked
+  check-small v h e l = rw (e, one-byte s at h (rw (sym e) l))
 
   module _ {o : Checked} (is : o ≡ checkedAt s at) where
     module _ (low high : ℕ) where

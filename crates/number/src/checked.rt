@@ -9,10 +9,19 @@ pub enum Checked {
     Bad { code: u32 },
 }
 
-// The number at the offset `at`.
+// The number at the offset `at`. Most numbers have one byte, which is looked at first.
 pub fn checked_at(s: &[u8], at: usize) -> Checked
     ensures { λ r. ⌜ r ≡ checkedAt (now (s .entry)) at ⌝ }
 {
+    if at < s.len() {
+        let value = crate::byte(s, at);
+        if value < 0x80 {
+            return Checked::Good {
+                value,
+                next: at + 1,
+            };
+        }
+    }
     match crate::number_at(s, at) {
         Number::Value { value, next } => Checked::Good { value, next },
         Number::Cut => Checked::Bad { code: 2 },

@@ -2,7 +2,7 @@
 -- Assumes nothing.
 use Prim.Native.Nat.{ℕ, _+_, _≤_, _<_}
 use native.Mathlib.Omega.{arith}
-use mathlib.Core.Path.{_≡_, refl, sym, subst, _∙_}
+use mathlib.Core.Path.{_≡_, refl, sym, _∙_}
 use mathlib.Core.Bool.{Bool, true, false, cond, _&&_}
 use mathlib.Core.List.{List}
 use lib.ListN.{length, getD}
@@ -17,7 +17,9 @@ use Rattle.number.specs.declared.checked.Checked.the-variants.{Good, Bad}
 use Rattle.number.specs.declared.token.Counts.{Counts}
 use Rattle.number.proofs.Laws.{decoded, onward}
 use Rattle.element.specs.Element.{within, formOf}
+use Rattle.element.specs.Decided.{leadFormOf, plain}
 use Rattle.element.specs.declared.Place.{Place}
+use Rattle.element.specs.declared.Place.the-variants as Place
 use Rattle.element.specs.declared.Form.{Form}
 use Rattle.element.specs.declared.Form.the-variants.{Instance}
 use Rattle.element.proofs.Runs.{inside, outside}
@@ -25,14 +27,14 @@ use Rattle.grammar.specs.Limits.{maxNodes}
 use Rattle.grammar.specs.Table.{kindOf}
 use Rattle.grammar.specs.Judge.{allowed}
 use Rattle.grammar.proofs.Sound.{both-right}
-use Rattle.reader.specs.Open.{codeAt, opening, instanceOf, headOf, openOf, leading, leadForm, leadOf}
+use Rattle.reader.specs.Open.{codeOf, codeAt, opening, instanceOf, headOf, openOf, leading, leadForm, leadOf}
+use Rattle.reader.specs.Walk.{called}
 use Rattle.reader.specs.declared.open.Code.{Code}
 use Rattle.reader.specs.declared.open.Code.the-variants as Code
 use Rattle.reader.specs.declared.open.Open.{Open}
 use Rattle.reader.specs.declared.open.Open.the-variants as Open
 use Rattle.reader.specs.declared.open.Lead.{Lead}
 use Rattle.reader.specs.declared.open.Lead.the-variants as Lead
-use Rattle.reader.proofs.Opens.{Begun, begun, code-begun}
 
 -- ---- numbers. y is what the call gave, and its contract says that it is x
 
@@ -88,30 +90,38 @@ count-most low high s at v next y e g = go (checkedAt s at) (sym e ∙ g)
     go (Good x z) h = inner x z (leb low x && leb x high) (λ q. leb-true x high (both-right (leb low x) _ q)) h
     go (Bad c) h = let z : _≡_ {A = ℕ} 0 1 = cc in absurd (omega arith)
 
--- ---- code_at
+-- ---- code_of and code_at
+
+module _ (d : ℕ) (f : Form) (b n : ℕ) (a : Bool) (t : a ≡ allowed f) where
+  pub code-refused : a ≡ false → Code.Shut 5 ≡ codeOf d f b n
+  unfolding codeOf
+  code-refused g = rw (sym t ∙ g)
+
+  module _ (g : a ≡ true) where
+    pub code-deep : d ≡ 0 → Code.Shut 6 ≡ codeOf d f b n
+    unfolding codeOf
+    code-deep z = rw (sym t ∙ g, z)
+
+    pub code-full : (d ≡ 0 → ⊥) → maxNodes ≤ n → Code.Shut 10 ≡ codeOf d f b n
+    unfolding codeOf
+    code-full z m = let i : 1 ≤ d = omega arith in rw (sym t ∙ g, le-leb 1 d i, le-ltb n maxNodes m)
+
+    pub code-opens : (d ≡ 0 → ⊥) → n < maxNodes → Code.Opens b f ≡ codeOf d f b n
+    unfolding codeOf
+    code-opens z m = let i : 1 ≤ d = omega arith in rw (sym t ∙ g, le-leb 1 d i, lt-ltb n maxNodes m)
 
 module _ (d : ℕ) (s : List ℕ) (p : Place) (at n : ℕ) where
   pub code-none : length s ≤ at → Code.Shut 2 ≡ codeAt d s p at n
   unfolding codeAt
   code-none h = rw (le-ltb at (length s) h)
 
-  module _ (f : Form) (h : at < length s) (e : f ≡ formOf p (getD s at 0)) (a : Bool) (t : a ≡ allowed f) where
-    pub code-refused : a ≡ false → Code.Shut 5 ≡ codeAt d s p at n
-    unfolding codeAt
-    code-refused g = rw (lt-ltb at (length s) h, ← e, sym t ∙ g)
+  pub code-some : (f : Form) (y : Code) → at < length s → f ≡ formOf p (getD s at 0) → y ≡ codeOf d f (getD s at 0) n → y ≡ codeAt d s p at n
+  unfolding codeAt
+  code-some f y h e g = rw (lt-ltb at (length s) h, ← e) g
 
-    module _ (g : a ≡ true) where
-      pub code-deep : d ≡ 0 → Code.Shut 6 ≡ codeAt d s p at n
-      unfolding codeAt
-      code-deep z = rw (lt-ltb at (length s) h, ← e, sym t ∙ g, z)
-
-      pub code-full : (d ≡ 0 → ⊥) → maxNodes ≤ n → Code.Shut 10 ≡ codeAt d s p at n
-      unfolding codeAt
-      code-full z m = let i : 1 ≤ d = omega arith in rw (lt-ltb at (length s) h, ← e, sym t ∙ g, le-leb 1 d i, le-ltb n maxNodes m)
-
-      pub code-opens : (d ≡ 0 → ⊥) → n < maxNodes → Code.Opens (getD s at 0) f ≡ codeAt d s p at n
-      unfolding codeAt
-      code-opens z m = let i : 1 ≤ d = omega arith in rw (lt-ltb at (length s) h, ← e, sym t ∙ g, le-leb 1 d i, lt-ltb n maxNodes m)
+-- the first byte of all
+pub code-first : (d : ℕ) (s : List ℕ) (p : Place) (n : ℕ) (f : Form) (y : Code) → (length s ≡ 0 → ⊥) → f ≡ formOf p (getD s 0 0) → y ≡ codeOf d f (getD s 0 0) n → y ≡ codeAt d s p 0 n
+code-first d s p n f y h e g = code-some d s p 0 n f y (omega arith) e g
 
 -- ---- open_at and lead_at
 
@@ -125,12 +135,6 @@ module _ (d : ℕ) (s : List ℕ) (p : Place) (at n : ℕ) (y : Code) (e : y ≡
   lead-shut c g = rw (sym e ∙ g)
 
   module _ (b : ℕ) (f : Form) (g : y ≡ Code.Opens b f) where
-    pub code-here : at < length s
-    code-here = go (subst (Begun d s p at n) (sym e ∙ g) (code-begun d s p at n))
-      where
-        go : {b : ℕ} {f : Form} → Begun d s p at n (Code.Opens b f) → at < length s
-        go (begun i j l q) = j
-
     pub open-head : (counts : Counts) (k : ℕ) (o : Open) → k ≡ kindOf p b → o ≡ headOf f counts s k at → o ≡ openOf d counts s p at n
     unfolding openOf
     open-head counts k o q h = rw (sym e ∙ g, ← q) h
@@ -138,6 +142,44 @@ module _ (d : ℕ) (s : List ℕ) (p : Place) (at n : ℕ) (y : Code) (e : y ≡
     pub lead-form : (k : ℕ) (o : Lead) → k ≡ kindOf p b → o ≡ leadForm f s k b at → o ≡ leadOf d s p at n
     unfolding leadOf
     lead-form k o q h = rw (sym e ∙ g, ← q) h
+
+pub open-none : (d : ℕ) (s : List ℕ) (p : Place) (at n : ℕ) (counts : Counts) → length s ≤ at → Open.Shut 2 at ≡ openOf d counts s p at n
+open-none d s p at n counts h = open-shut d s p at n _ (code-none d s p at n h) counts 2 refl
+
+pub lead-none : (d : ℕ) (s : List ℕ) (p : Place) (at n : ℕ) → length s ≤ at → Lead.Shut 2 at ≡ leadOf d s p at n
+lead-none d s p at n h = lead-shut d s p at n _ (code-none d s p at n h) 2 refl
+
+-- in a place of a method the form is the lead byte's
+pub called-form : (p : Place) (b : ℕ) → called p ≡ true → leadFormOf p b ≡ formOf p b
+called-form Place.Type b h = cc
+called-form Place.Pointee b h = cc
+called-form Place.Param b h = cc
+called-form Place.RetType b h = cc
+called-form Place.Local b h = cc
+called-form Place.Pinned b h = cc
+called-form Place.TypeSpec b h = cc
+called-form Place.ModifiedSpec b h = cc
+called-form Place.FnPtrMethod b h = refl
+called-form Place.FieldSig b h = cc
+called-form Place.LocalVarSig b h = cc
+called-form Place.PropertySig b h = refl
+called-form Place.MethodDefSig b h = refl
+
+-- in a place of a type the kind is the byte
+pub plain-kind : (p : Place) (b : ℕ) → plain p ≡ true → b ≡ kindOf p b
+plain-kind Place.Type b h = refl
+plain-kind Place.Pointee b h = refl
+plain-kind Place.Param b h = refl
+plain-kind Place.RetType b h = refl
+plain-kind Place.Local b h = refl
+plain-kind Place.Pinned b h = refl
+plain-kind Place.TypeSpec b h = refl
+plain-kind Place.ModifiedSpec b h = refl
+plain-kind Place.FnPtrMethod b h = cc
+plain-kind Place.FieldSig b h = cc
+plain-kind Place.LocalVarSig b h = cc
+plain-kind Place.PropertySig b h = cc
+plain-kind Place.MethodDefSig b h = cc
 
 -- ---- instance_at
 

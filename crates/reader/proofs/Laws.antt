@@ -55,6 +55,15 @@ walked-is o q n r b b′ e w = rw e w
 pub found : (o : Out) (n : ℕ) (w v : Walk) (o₀ o₁ : List ℕ) → w ≡ v → Walked o n w o₀ o₁ → Walked o n v o₀ o₁
 found o n w v o₀ o₁ e h = subst (λ (x : Walk). Walked o n x o₀ o₁) e h
 
+-- the result and the table by other names
+pub walked-as : (o : Out) (n : ℕ) (r r′ : Walk) (o₀ o₁ o₂ : List ℕ) → o₂ ≡ o₁ → r′ ≡ r → Walked o n r o₀ o₁ → Walked o n r′ o₀ o₂
+walked-as o n r r′ o₀ o₁ o₂ e g h = rw (e, g) h
+
+pub walked-length : (o : Out) (n : ℕ) (r : Walk) (o₀ o₁ : List ℕ) → Walked o n r o₀ o₁ → length o₁ ≡ length o₀
+unfolding leaves
+walked-length (fault c p) n r o₀ o₁ h = h .left
+walked-length (done e m rs) n r o₀ o₁ h = ap length (h .left) ∙ length-stamp rs n o₀
+
 pub still : (e m n : ℕ) (o : List ℕ) → Walked (done e m []) n (Next e m) o o
 unfolding walkOf leaves stamp
 still e m n o = record { result = refl; left = refl }

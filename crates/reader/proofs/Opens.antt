@@ -2,28 +2,29 @@
 -- Assumes nothing.
 use Prim.Native.Nat.{ℕ, zero, suc, _+_, _-_, _≤_, _<_}
 use native.Mathlib.Omega.{arith}
-use mathlib.Core.Path.{_≡_, refl, _∙_}
-use mathlib.Core.Bool.{Bool, true, false, cond, not}
-use mathlib.Core.List.{List, [], _∷_, _++_}
+use mathlib.Core.Path.{_≡_, refl, sym, ap, _∙_}
+use mathlib.Core.Bool.{Bool, true, false, cond}
+use mathlib.Core.List.{List, [], _∷_, _++_, append-nil}
 use lib.ListN.{length, getD}
 use lib.Dec.{ltb, leb}
-use borrow.Author.Tests.{ltb-true, leb-true, not-true}
+use borrow.Author.Tests.{ltb-true, leb-true}
 use Rattle.number.specs.Number.{maxNumber}
 use Rattle.number.specs.Checked.{checkedAt, countAt}
 use Rattle.number.specs.Token.{typeTags, modTags, tokenAt}
 use Rattle.number.specs.declared.checked.Checked.{Checked}
 use Rattle.number.specs.declared.checked.Checked.the-variants.{Good, Bad}
 use Rattle.number.specs.declared.token.Counts.{Counts}
-use Rattle.element.specs.Element.{within, bare, leads, entries, formOf}
+use Rattle.element.specs.Element.{within, lookup, bare, leads, entries, formOf}
+use Rattle.element.specs.Decided.{plain}
 use Rattle.element.specs.declared.Place.{Place}
 use Rattle.element.specs.declared.Place.the-variants as Place
 use Rattle.element.specs.declared.Form.{Form}
 use Rattle.element.specs.declared.Form.the-variants.{Refused, Leaf, Named, Variable, Wrap, Modified, Counted, Array, Instance, FnPtr, Callable, Generic}
 use Rattle.element.proofs.Runs.{lookup-passes}
 use Rattle.grammar.specs.Limits.{maxNodes}
-use Rattle.grammar.specs.Table.{kindOf}
+use Rattle.grammar.specs.Table.{kindOf, FIELD, LOCALS}
 use Rattle.grammar.specs.Judge.{Out, fault, done, bind, check, numbered, many, Reader, callable, array, body, allowed, opened, node}
-use Rattle.reader.specs.Open.{head, codeAt, opening, instanceOf, headOf, openOf, openCode, leading, callOf, genericOf, leadForm, leadOf, leadCode}
+use Rattle.reader.specs.Open.{head, codeOf, codeAt, opening, instanceOf, headOf, openOf, openCode, leading, callOf, genericOf, leadForm, leadOf, leadCode}
 use Rattle.reader.specs.Walk.{called, recordOf}
 use Rattle.reader.specs.declared.open.Head.{Head}
 use Rattle.reader.specs.declared.open.Code.{Code}
@@ -45,7 +46,7 @@ unfoldable pub sealed : Out → Head → ℕ → Out
 sealed (fault code place) h at = fault code place
 sealed (done e m rs) h at = done e m (recordOf h at m ∷ rs)
 
-bind-sealed : (o : Out) (h : Head) (at : ℕ) → bind o (λ e m rs. done e m (recordOf h at m ∷ rs)) ≡ sealed o h at
+pub bind-sealed : (o : Out) (h : Head) (at : ℕ) → bind o (λ e m rs. done e m (recordOf h at m ∷ rs)) ≡ sealed o h at
 unfolding sealed
 bind-sealed (fault code place) h at = refl
 bind-sealed (done e m rs) h at = refl
@@ -60,13 +61,21 @@ bind-both (done e m rs) k h at = inner (k e m)
     inner (fault code place) = refl
     inner (done e′ m′ ts) = refl
 
+-- one of a kind is that one
+pub many-one : (f : ℕ → ℕ → Out) (at n : ℕ) → many f 1 at n ≡ f at n
+unfolding many
+many-one f at n = go (f at n)
+  where
+    go : (o : Out) → bind o (λ at₁ n₁ rs. bind (done at₁ n₁ []) (λ at₂ n₂ ts. done at₂ n₂ (rs ++ ts))) ≡ o
+    go (fault code place) = refl
+    go (done e m rs) = ap (done e m) (append-nil rs)
+
 -- ---- types
 
 -- the outcome that goes with an opening
 unfoldable pub onOpen : Open → Reader → (d : ℕ) → List ℕ → Counts → (at n : ℕ) → Out
 onOpen (Open.Shut code place) read d s counts at n = fault code place
 onOpen (Open.Leaf h next) read d s counts at n = sealed (done next (n + 1) []) h at
-onOpen (Open.One h p next) read d s counts at n = sealed (read counts p next (n + 1)) h at
 onOpen (Open.Method h next) read d s counts at n = sealed (read counts Place.FnPtrMethod next (n + 1)) h at
 onOpen (Open.All h p next) read d s counts at n = sealed (many (read counts p) (h .children) next (n + 1)) h at
 onOpen (Open.Array kind) read d s counts at n = array read d s counts kind at n
@@ -91,16 +100,16 @@ typed Refused = true
 typed Leaf = true
 typed Named = true
 typed Variable = true
-typed (Wrap p) = not (called p)
-typed (Modified p) = not (called p)
-typed (Counted p) = not (called p)
+typed (Wrap p) = plain p
+typed (Modified p) = plain p
+typed (Counted p) = false
 typed Array = true
 typed Instance = true
 typed FnPtr = true
 typed Callable = false
 typed Generic = false
 
-typed-form : (p : Place) (b : ℕ) → called p ≡ false → typed (formOf p b) ≡ true
+typed-form : (p : Place) (b : ℕ) → plain p ≡ true → typed (formOf p b) ≡ true
 unfolding formOf entries bare leads
 typed-form Place.Type b e = lookup-passes typed (entries Place.Type) b refl refl
 typed-form Place.Pointee b e = lookup-passes typed (entries Place.Pointee) b refl refl
@@ -108,11 +117,11 @@ typed-form Place.Param b e = lookup-passes typed (entries Place.Param) b refl re
 typed-form Place.RetType b e = lookup-passes typed (entries Place.RetType) b refl refl
 typed-form Place.Local b e = lookup-passes typed (entries Place.Local) b refl refl
 typed-form Place.Pinned b e = lookup-passes typed (entries Place.Pinned) b refl refl
-typed-form Place.TypeSpec b e = lookup-passes typed (entries Place.TypeSpec) b refl refl
+typed-form Place.TypeSpec b e = cc
 typed-form Place.ModifiedSpec b e = lookup-passes typed (entries Place.ModifiedSpec) b refl refl
 typed-form Place.FnPtrMethod b e = cc
-typed-form Place.FieldSig b e = lookup-passes typed (entries Place.FieldSig) b refl refl
-typed-form Place.LocalVarSig b e = lookup-passes typed (entries Place.LocalVarSig) b refl refl
+typed-form Place.FieldSig b e = cc
+typed-form Place.LocalVarSig b e = cc
 typed-form Place.PropertySig b e = cc
 typed-form Place.MethodDefSig b e = cc
 
@@ -123,13 +132,12 @@ body-open read d s counts kind b at n Refused t = refl
 body-open read d s counts kind b at n Leaf t = refl
 body-open read d s counts kind b at n Named t = number-open read d s counts at n (tokenAt typeTags counts s (at + 1)) (at + 1) _ _ (λ v next. refl)
 body-open read d s counts kind b at n Variable t = number-open read d s counts at n (checkedAt s (at + 1)) (at + 1) _ _ (λ v next. refl)
-body-open read d s counts kind b at n (Wrap p) t = bind-sealed (read counts p (at + 1) (n + 1)) (head kind 0 0 1) at
+body-open read d s counts kind b at n (Wrap p) t =
+    bind-sealed (read counts p (at + 1) (n + 1)) (head kind 0 0 1) at ∙ ap (λ (o : Out). sealed o (head kind 0 0 1) at) (sym (many-one (read counts p) (at + 1) (n + 1)))
 body-open read d s counts kind b at n (Modified p) t =
     number-open read d s counts at n (tokenAt modTags counts s (at + 1)) (at + 1) _ _
-    (λ v next. bind-sealed (read counts p next (n + 1)) (head kind v 0 1) at)
-body-open read d s counts kind b at n (Counted p) t =
-    number-open read d s counts at n (countAt 1 maxNumber s (at + 1)) (at + 1) _ _
-    (λ c next. bind-sealed (many (read counts p) c next (n + 1)) (head kind 0 0 c) at)
+    (λ v next. bind-sealed (read counts p next (n + 1)) (head kind v 0 1) at ∙ ap (λ (o : Out). sealed o (head kind v 0 1) at) (sym (many-one (read counts p) next (n + 1))))
+body-open read d s counts kind b at n (Counted p) t = cc
 body-open read d s counts kind b at n Array t = refl
 body-open read d s counts kind b at n Instance t =
     check-open read d s counts at n (ltb (at + 1) (length s)) 2 (at + 1) _ _
@@ -221,7 +229,7 @@ onCode (Code.Shut code) at k = fault code at
 onCode (Code.Opens b f) at k = k b f
 
 opened-code : (d : ℕ) (s : List ℕ) (p : Place) (at n : ℕ) (k : ℕ → Form → Out) → opened d s p at n k ≡ onCode (codeAt d s p at n) at k
-unfolding codeAt onCode
+unfolding codeAt codeOf onCode
 opened-code d s p at n k = go (ltb at (length s)) (allowed (formOf p (getD s at 0))) (leb 1 d) (ltb n maxNodes)
   where
     go : (t u v w : Bool)
@@ -239,7 +247,7 @@ pub data Begun (d : ℕ) (s : List ℕ) (p : Place) (at n : ℕ) : Code → Type
   begun : {b : ℕ} {f : Form} → 0 < d → at < length s → n < maxNodes → formOf p b ≡ f → Begun d s p at n (Code.Opens b f)
 
 pub code-begun : (d : ℕ) (s : List ℕ) (p : Place) (at n : ℕ) → Begun d s p at n (codeAt d s p at n)
-unfolding codeAt
+unfolding codeAt codeOf
 code-begun d s p at n =
     go (ltb at (length s)) (allowed (formOf p (getD s at 0))) (leb 1 d) (ltb n maxNodes)
     (ltb-true _ _) (leb-true _ _) (ltb-true _ _)
@@ -252,15 +260,55 @@ code-begun d s p at n =
     go true false v w f g h = shut
     go false u v w f g h = shut
 
+-- the byte and the form of an opened code byte
+opens-are : (d : ℕ) (s : List ℕ) (p : Place) (at n b : ℕ) (f : Form) → codeAt d s p at n ≡ Code.Opens b f
+    → (allowed (formOf p (getD s at 0)) ≡ true) × (getD s at 0 ≡ b) × (formOf p (getD s at 0) ≡ f)
+unfolding codeAt codeOf
+opens-are d s p at n b f e = go (ltb at (length s)) (allowed (formOf p (getD s at 0))) (leb 1 d) (ltb n maxNodes) refl e
+  where
+    go : (t u v w : Bool) → allowed (formOf p (getD s at 0)) ≡ u
+        → cond t (cond u (cond v (cond w (Code.Opens (getD s at 0) (formOf p (getD s at 0))) (Code.Shut 10)) (Code.Shut 6)) (Code.Shut 5)) (Code.Shut 2) ≡ Code.Opens b f
+        → (allowed (formOf p (getD s at 0)) ≡ true) × (getD s at 0 ≡ b) × (formOf p (getD s at 0) ≡ f)
+    go true true true true q h = (q, cc, cc)
+    go true true true false q h = let z : _≡_ {A = ℕ} 0 1 = cc in absurd (omega arith)
+    go true true false w q h = let z : _≡_ {A = ℕ} 0 1 = cc in absurd (omega arith)
+    go true false v w q h = let z : _≡_ {A = ℕ} 0 1 = cc in absurd (omega arith)
+    go false u v w q h = let z : _≡_ {A = ℕ} 0 1 = cc in absurd (omega arith)
+
+-- the forms of the roots that are no methods
+module _ (b : ℕ) where
+  spec-form : allowed (formOf Place.TypeSpec b) ≡ true → formOf Place.TypeSpec b ≡ formOf Place.ModifiedSpec b
+  unfolding formOf entries
+  spec-form h = go (within 0x11 0x12 b) h
+    where
+      go : (t : Bool) → allowed (cond t Refused (lookup (entries Place.ModifiedSpec) b)) ≡ true → cond t Refused (lookup (entries Place.ModifiedSpec) b) ≡ lookup (entries Place.ModifiedSpec) b
+      go true h = cc
+      go false h = refl
+
+  field-form : allowed (formOf Place.FieldSig b) ≡ true → formOf Place.FieldSig b ≡ Wrap Place.Type
+  unfolding formOf entries
+  field-form h = go (within 0x06 0x06 b) h
+    where
+      go : (t : Bool) → allowed (cond t (Wrap Place.Type) Refused) ≡ true → cond t (Wrap Place.Type) Refused ≡ Wrap Place.Type
+      go true h = refl
+      go false h = cc
+
+  locals-form : allowed (formOf Place.LocalVarSig b) ≡ true → formOf Place.LocalVarSig b ≡ Counted Place.Local
+  unfolding formOf entries
+  locals-form h = go (within 0x07 0x07 b) h
+    where
+      go : (t : Bool) → allowed (cond t (Counted Place.Local) Refused) ≡ true → cond t (Counted Place.Local) Refused ≡ Counted Place.Local
+      go true h = refl
+      go false h = cc
+
 -- ---- a node, by what the code finds of it
 
 -- what an opening says of its place
 unfoldable pub Begins : (d len at n : ℕ) → Open → Type 0
 Begins d len at n (Open.Shut code place) = Unit {0}
 Begins d len at n (Open.Leaf h next) = (0 < d) × (at < len) × (n < maxNodes)
-Begins d len at n (Open.One h p next) = (0 < d) × (at < len) × (n < maxNodes) × (called p ≡ false)
 Begins d len at n (Open.Method h next) = (0 < d) × (at < len) × (n < maxNodes)
-Begins d len at n (Open.All h p next) = (0 < d) × (at < len) × (n < maxNodes) × (called p ≡ false)
+Begins d len at n (Open.All h p next) = (0 < d) × (at < len) × (n < maxNodes) × (plain p ≡ true)
 Begins d len at n (Open.Array kind) = (0 < d) × (at < len) × (n < maxNodes)
 
 module _ (d : ℕ) (s : List ℕ) (at n : ℕ) (i : 0 < d) (j : at < length s) (l : n < maxNodes) where
@@ -280,9 +328,9 @@ module _ (d : ℕ) (s : List ℕ) (at n : ℕ) (i : 0 < d) (j : at < length s) (
   head-begins Leaf counts kind t = (i, j, l)
   head-begins Named counts kind t = number-begins (tokenAt typeTags counts s (at + 1)) (at + 1) _ (λ v next. (i, j, l))
   head-begins Variable counts kind t = number-begins (checkedAt s (at + 1)) (at + 1) _ (λ v next. (i, j, l))
-  head-begins (Wrap p) counts kind t = (i, j, l, not-true _ t)
-  head-begins (Modified p) counts kind t = number-begins (tokenAt modTags counts s (at + 1)) (at + 1) _ (λ v next. (i, j, l, not-true _ t))
-  head-begins (Counted p) counts kind t = number-begins (countAt 1 maxNumber s (at + 1)) (at + 1) _ (λ v next. (i, j, l, not-true _ t))
+  head-begins (Wrap p) counts kind t = (i, j, l, t)
+  head-begins (Modified p) counts kind t = number-begins (tokenAt modTags counts s (at + 1)) (at + 1) _ (λ v next. (i, j, l, t))
+  head-begins (Counted p) counts kind t = tt
   head-begins Array counts kind t = (i, j, l)
   head-begins Instance counts kind t =
       cond-begins (ltb (at + 1) (length s)) 2 (at + 1) _
@@ -310,7 +358,7 @@ module _ (s : List ℕ) (counts : Counts) (p : Place) (at n : ℕ) where
       rw z (opened-code (suc d) s p at n (λ b f. body (node d s) d s counts (kindOf p b) b at n f))
 
   module _ (d : ℕ) where
-    pub node-open : called p ≡ false → node d s counts p at n ≡ onOpen (openOf d counts s p at n) (node (d - 1) s) (d - 1) s counts at n
+    pub node-open : plain p ≡ true → node d s counts p at n ≡ onOpen (openOf d counts s p at n) (node (d - 1) s) (d - 1) s counts at n
     unfolding openOf onCode onOpen
     node-open t = node-code d ∙ go (codeAt d s p at n) (code-begun d s p at n)
       where
@@ -319,7 +367,7 @@ module _ (s : List ℕ) (counts : Counts) (p : Place) (at n : ℕ) where
         go (Code.Shut code) b = refl
         go (Code.Opens b f) (begun i j l e) = body-open (node (d - 1) s) (d - 1) s counts (kindOf p b) b at n f (rw e at (typed-form p b t))
 
-    pub open-begins : called p ≡ false → Begins d (length s) at n (openOf d counts s p at n)
+    pub open-begins : plain p ≡ true → Begins d (length s) at n (openOf d counts s p at n)
     unfolding openOf Begins
     open-begins t = go (codeAt d s p at n) (code-begun d s p at n)
       where
@@ -335,3 +383,35 @@ module _ (s : List ℕ) (counts : Counts) (p : Place) (at n : ℕ) where
             → onCode c at (λ b f. body (node (d - 1) s) (d - 1) s counts (kindOf p b) b at n f) ≡ onLead (leadCode c s p at) (node (d - 1) s) counts at n
         go (Code.Shut code) b = refl
         go (Code.Opens b f) (begun i j l e) = body-lead (node (d - 1) s) (d - 1) s counts (kindOf p b) b at n f (rw e at (methodic-form p b t))
+
+    pub node-shut : (c : ℕ) → codeAt d s p at n ≡ Code.Shut c → node d s counts p at n ≡ fault c at
+    unfolding onCode
+    node-shut c e = node-code d ∙ rw e
+
+    node-opens : (b : ℕ) (f : Form) → codeAt d s p at n ≡ Code.Opens b f → node d s counts p at n ≡ body (node (d - 1) s) (d - 1) s counts (kindOf p b) b at n f
+    unfolding onCode
+    node-opens b f e = node-code d ∙ rw e
+
+module _ (s : List ℕ) (counts : Counts) (at n d b : ℕ) (f : Form) where
+  pub spec-node : codeAt d s Place.TypeSpec at n ≡ Code.Opens b f → node d s counts Place.TypeSpec at n ≡ node d s counts Place.ModifiedSpec at n
+  unfolding codeAt codeOf
+  spec-node e =
+      let k = spec-form (getD s at 0) (opens-are d s Place.TypeSpec at n b f e .0) in
+      let c : codeAt d s Place.ModifiedSpec at n ≡ Code.Opens b f = rw (sym k) e in
+      node-opens s counts Place.TypeSpec at n d b f e ∙ sym (node-opens s counts Place.ModifiedSpec at n d b f c)
+
+  pub field-node : codeAt d s Place.FieldSig at n ≡ Code.Opens b f → node d s counts Place.FieldSig at n ≡ sealed (node (d - 1) s counts Place.Type (at + 1) (n + 1)) (head FIELD 0 0 1) at
+  unfolding body
+  field-node e =
+      let a = opens-are d s Place.FieldSig at n b f e in
+      let k : f ≡ Wrap Place.Type = sym (a .2) ∙ field-form (getD s at 0) (a .0) in
+      node-opens s counts Place.FieldSig at n d b f e ∙ rw k (bind-sealed _ (head FIELD 0 0 1) at)
+
+  pub locals-node : codeAt d s Place.LocalVarSig at n ≡ Code.Opens b f
+      → node d s counts Place.LocalVarSig at n
+      ≡ numbered (countAt 1 maxNumber s (at + 1)) (at + 1) (λ c next. bind (many (node (d - 1) s counts Place.Local) c next (n + 1)) (λ at₁ n₁ rs. done at₁ n₁ (recordOf (head LOCALS 0 0 c) at n₁ ∷ rs)))
+  unfolding body
+  locals-node e =
+      let a = opens-are d s Place.LocalVarSig at n b f e in
+      let k : f ≡ Counted Place.Local = sym (a .2) ∙ locals-form (getD s at 0) (a .0) in
+      node-opens s counts Place.LocalVarSig at n d b f e ∙ rw k refl

@@ -8,17 +8,19 @@ use mathlib.Core.List.{List, []}
 use lib.ListN.{length}
 use lib.Dec.{eqb}
 use borrow.Author.Tests.{lt-ltb, le-ltb, le-leb, lt-leb, eq-eqb, ne-eqb}
-use Rattle.number.specs.Checked.{checkedAt}
+use Rattle.number.specs.Number.{maxNumber}
+use Rattle.number.specs.Checked.{checkedAt, countAt}
 use Rattle.number.specs.declared.checked.Checked.{Checked}
 use Rattle.number.specs.declared.checked.Checked.the-variants.{Good, Bad}
 use Rattle.number.specs.declared.token.Counts.{Counts}
+use Rattle.element.specs.Decided.{plain}
 use Rattle.element.specs.declared.Place.{Place}
 use Rattle.element.specs.declared.Place.the-variants as Place
 use Rattle.element.specs.declared.Form.{Form}
 use Rattle.element.specs.declared.Form.the-variants.{Refused, Leaf, Named, Variable, Wrap, Modified, Counted, Array, Instance, FnPtr, Callable, Generic}
 use Rattle.grammar.specs.Kinds.{maxKind, rootOf}
 use Rattle.grammar.specs.Limits.{maxBytes, maxNodes, maxDepth}
-use Rattle.grammar.specs.Table.{kindOf}
+use Rattle.grammar.specs.Table.{kindOf, FIELD, LOCALS}
 use Rattle.grammar.specs.Judge.{Out, fault, done, bind, check, many, bound, node, known, judge}
 use Rattle.grammar.proofs.Bounds.{ends-many, ends-node}
 use Rattle.reader.specs.Answer.{answer, answerOf}
@@ -34,7 +36,8 @@ use Rattle.reader.specs.declared.open.Lead.the-variants as Lead
 use Rattle.reader.specs.declared.walk.Walk.{Walk}
 use Rattle.reader.specs.declared.walk.Walk.the-variants.{Next, Stop}
 use Rattle.reader.proofs.Stamp.{length-stamp}
-use Rattle.reader.proofs.Opens.{sealed, onOpen, onLead, Begun, begun, code-begun, Begins, node-open, open-begins, node-lead}
+use Rattle.reader.proofs.Opens.{sealed, bind-sealed, many-one, onOpen, onLead, Begun, begun, code-begun, Begins, node-open, open-begins, node-lead, node-shut, spec-node, field-node, locals-node}
+use Rattle.reader.proofs.Heads.{code-none}
 use Rattle.reader.proofs.Laws.{clash, walked-fault, walked-is, found, still, walked-seal, walked-stop, walked-then, walked-next, walked-small}
 
 -- ---- bound_at. y is what the call gave, and its contract says that it is `checkedAt`
@@ -57,9 +60,9 @@ module _ (kind d : ℕ) (s : List ℕ) (at n : ℕ) (y : Checked) (e : y ≡ che
         walked-is _ (sealed (done next (n + 1) []) (head kind v 0 0) at) n r o o₁ (rw (sym e ∙ g, le-leb 1 d i, lt-ltb n maxNodes j))
         (walked-seal _ n _ at _ r o o o₁ (still next (n + 1) (n + 1) o) q)
 
--- ---- type_at
+-- ---- types_at
 
-module _ (d : ℕ) (s : List ℕ) (counts : Counts) (p : Place) (at n : ℕ) (t : called p ≡ false) (y : Open) (e : y ≡ openOf d counts s p at n) where
+module _ (d : ℕ) (s : List ℕ) (counts : Counts) (p : Place) (at n : ℕ) (t : plain p ≡ true) (y : Open) (e : y ≡ openOf d counts s p at n) where
   opened-as : (x : Open) → y ≡ x → node d s counts p at n ≡ onOpen x (node (d - 1) s) (d - 1) s counts at n
   opened-as x g = node-open s counts p at n d t ∙ ap (λ (z : Open). onOpen z (node (d - 1) s) (d - 1) s counts at n) (sym e ∙ g)
 
@@ -79,19 +82,6 @@ module _ (d : ℕ) (s : List ℕ) (counts : Counts) (p : Place) (at n : ℕ) (t 
     unfolding onOpen
     leaf-done r o o₁ z = walked-is _ _ n r o o₁ (opened-as _ g) (walked-seal _ n h at _ r o o o₁ (still next (n + 1) (n + 1) o) z)
 
-  module _ (h : Head) (q : Place) (next : ℕ) (g : y ≡ Open.One h q next) where
-    pub one-bounds : (0 < d) × (at < length s) × (n < maxNodes) × (called q ≡ false)
-    unfolding Begins
-    one-bounds = begins-as _ g
-
-    module _ (w : Walk) (o₀ o₁ : List ℕ) (x : Walked (node (d - 1) s counts q next (n + 1)) (n + 1) w o₀ o₁) where
-      pub one-small : smallOf w
-      one-small = walked-small _ (n + 1) w o₀ o₁ (ends-node s (d - 1) counts q next (n + 1)) x
-
-      pub one-done : (r : Walk) (o₂ : List ℕ) → Sealed w n h at r o₁ o₂ → Walked (node d s counts p at n) n r o₀ o₂
-      unfolding onOpen
-      one-done r o₂ z = walked-is _ _ n r o₀ o₂ (opened-as _ g) (walked-seal _ n h at w r o₀ o₁ o₂ x z)
-
   module _ (h : Head) (next : ℕ) (g : y ≡ Open.Method h next) where
     pub pointer-bounds : (0 < d) × (at < length s) × (n < maxNodes)
     unfolding Begins
@@ -106,7 +96,7 @@ module _ (d : ℕ) (s : List ℕ) (counts : Counts) (p : Place) (at n : ℕ) (t 
       pointer-done r o₂ z = walked-is _ _ n r o₀ o₂ (opened-as _ g) (walked-seal _ n h at w r o₀ o₁ o₂ x z)
 
   module _ (h : Head) (q : Place) (next : ℕ) (g : y ≡ Open.All h q next) where
-    pub all-bounds : (0 < d) × (at < length s) × (n < maxNodes) × (called q ≡ false)
+    pub all-bounds : (0 < d) × (at < length s) × (n < maxNodes) × (plain q ≡ true)
     unfolding Begins
     all-bounds = begins-as _ g
 
@@ -128,6 +118,11 @@ module _ (d : ℕ) (s : List ℕ) (counts : Counts) (p : Place) (at n : ℕ) (t 
     pub array-node : (r : Walk) (o o₁ : List ℕ) → Walked (arrayOf (d - 1) s counts kind at n) n r o o₁ → Walked (node d s counts p at n) n r o o₁
     unfolding onOpen
     array-node r o o₁ x = walked-is _ _ n r o o₁ (opened-as _ g) x
+
+-- ---- type_at
+
+pub one-walked : (f : ℕ → ℕ → Out) (at n : ℕ) (r : Walk) (o o₁ : List ℕ) → Walked (many f 1 at n) n r o o₁ → Walked (f at n) n r o o₁
+one-walked f at n r o o₁ x = walked-is _ _ n r o o₁ (sym (many-one f at n)) x
 
 -- ---- method_at
 
@@ -208,6 +203,40 @@ module _ (d : ℕ) (s : List ℕ) (counts : Counts) (p : Place) (at n : ℕ) (t 
             (walked-seal _ n h at w₂ r o₀ o₂ o₃
             (walked-then _ (many (node (d - 1) s counts Place.Param) c) (n + 1) e₁ m w₂ o₀ o₁ o₂ (ends-node s (d - 1) counts Place.RetType next (n + 1)) (found _ (n + 1) w _ o₀ o₁ u x) z)
             q)
+
+-- ---- spec_at, field_at and locals_at. y is what `code_of` gave
+
+pub root-none : (d : ℕ) (s : List ℕ) (counts : Counts) (p : Place) (at n : ℕ) (o : List ℕ) → length s ≤ at → Walked (node d s counts p at n) n (Stop 2 at) o o
+root-none d s counts p at n o h = walked-fault _ n 2 at o (node-shut s counts p at n d 2 (sym (code-none d s p at n h)))
+
+module _ (d : ℕ) (s : List ℕ) (counts : Counts) (p : Place) (at n : ℕ) (y : Code) (e : y ≡ codeAt d s p at n) where
+  pub root-stop : (c : ℕ) (o : List ℕ) → y ≡ Code.Shut c → Walked (node d s counts p at n) n (Stop c at) o o
+  root-stop c o g = walked-fault _ n c at o (node-shut s counts p at n d c (sym e ∙ g))
+
+module _ (d : ℕ) (s : List ℕ) (counts : Counts) (at n : ℕ) (y : Code) (b : ℕ) (f : Form) (g : y ≡ Code.Opens b f) where
+  pub spec-done : y ≡ codeAt d s Place.TypeSpec at n → (r : Walk) (o o₁ : List ℕ) → Walked (node d s counts Place.ModifiedSpec at n) n r o o₁ → Walked (node d s counts Place.TypeSpec at n) n r o o₁
+  spec-done e r o o₁ x = walked-is _ _ n r o o₁ (spec-node s counts at n d b f (sym e ∙ g)) x
+
+  module _ (w : Walk) (o₀ o₁ : List ℕ) (x : Walked (node (d - 1) s counts Place.Type (at + 1) (n + 1)) (n + 1) w o₀ o₁) where
+    pub field-small : smallOf w
+    field-small = walked-small _ (n + 1) w o₀ o₁ (ends-node s (d - 1) counts Place.Type (at + 1) (n + 1)) x
+
+    pub field-done : y ≡ codeAt d s Place.FieldSig at n → (r : Walk) (o₂ : List ℕ) → Sealed w n (head FIELD 0 0 1) at r o₁ o₂ → Walked (node d s counts Place.FieldSig at n) n r o₀ o₂
+    field-done e r o₂ q = walked-is _ _ n r o₀ o₂ (field-node s counts at n d b f (sym e ∙ g)) (walked-seal _ n _ at w r o₀ o₁ o₂ x q)
+
+  module _ (e : y ≡ codeAt d s Place.LocalVarSig at n) (z : Checked) (k : z ≡ countAt 1 maxNumber s (at + 1)) where
+    pub locals-bad : (c : ℕ) (o : List ℕ) → z ≡ Bad c → Walked (node d s counts Place.LocalVarSig at n) n (Stop c (at + 1)) o o
+    locals-bad c o h = walked-fault _ n c (at + 1) o (locals-node s counts at n d b f (sym e ∙ g) ∙ rw (sym k ∙ h))
+
+    module _ (v next : ℕ) (h : z ≡ Good v next) (w : Walk) (o₀ o₁ : List ℕ) (x : Walked (many (node (d - 1) s counts Place.Local) v next (n + 1)) (n + 1) w o₀ o₁) where
+      pub locals-small : n < maxNodes → smallOf w
+      locals-small l = walked-small _ (n + 1) w o₀ o₁ (ends-many (node (d - 1) s counts Place.Local) (ends-node s (d - 1) counts Place.Local) v next (n + 1) (omega arith)) x
+
+      pub locals-done : (r : Walk) (o₂ : List ℕ) → Sealed w n (head LOCALS 0 0 v) at r o₁ o₂ → Walked (node d s counts Place.LocalVarSig at n) n r o₀ o₂
+      locals-done r o₂ q =
+          walked-is _ (sealed (many (node (d - 1) s counts Place.Local) v next (n + 1)) (head LOCALS 0 0 v) at) n r o₀ o₂
+          (locals-node s counts at n d b f (sym e ∙ g) ∙ (rw (sym k ∙ h) (bind-sealed _ (head LOCALS 0 0 v) at)))
+          (walked-seal _ n _ at w r o₀ o₁ o₂ x q)
 
 -- ---- root_at
 

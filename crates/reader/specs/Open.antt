@@ -30,14 +30,13 @@ use Rattle.reader.specs.declared.open.Lead.the-variants as Lead
 abbrev pub head : (kind a b children : ℕ) → Head
 head kind a b children = record { kind = kind; a = a; b = b; children = children }
 
+-- the code byte b with the form f: 5, 6, 10
+unfoldable pub codeOf : (d : ℕ) → Form → (b n : ℕ) → Code
+codeOf d f b n = cond (allowed f) (cond (leb 1 d) (cond (ltb n maxNodes) (Code.Opens b f) (Code.Shut 10)) (Code.Shut 6)) (Code.Shut 5)
+
 -- the code byte: 2, 5, 6, 10
 unfoldable pub codeAt : (d : ℕ) → List ℕ → Place → (at n : ℕ) → Code
-codeAt d s p at n =
-    cond (ltb at (length s))
-    (cond (allowed (formOf p (getD s at 0)))
-    (cond (leb 1 d) (cond (ltb n maxNodes) (Code.Opens (getD s at 0) (formOf p (getD s at 0))) (Code.Shut 10)) (Code.Shut 6))
-    (Code.Shut 5))
-    (Code.Shut 2)
+codeAt d s p at n = cond (ltb at (length s)) (codeOf d (formOf p (getD s at 0)) (getD s at 0) n) (Code.Shut 2)
 
 -- go on with a number, or its refusal
 unfoldable pub opening : Checked → ℕ → (ℕ → ℕ → Open) → Open
@@ -50,15 +49,15 @@ instanceOf counts s kind which at =
     opening (tokenAt typeTags counts s (at + 2)) (at + 2)
     (λ t at₁. opening (countAt 1 maxNumber s at₁) at₁ (λ c next. Open.All (head kind t which c) Place.Type next))
 
--- a type behind its code byte; a method's form is not looked for here
+-- a type behind its code byte; the forms of roots and methods are not looked for here
 unfoldable pub headOf : Form → Counts → List ℕ → (kind at : ℕ) → Open
 headOf Refused counts s kind at = Open.Shut 5 at
 headOf Leaf counts s kind at = Open.Leaf (head kind 0 0 0) (at + 1)
 headOf Named counts s kind at = opening (tokenAt typeTags counts s (at + 1)) (at + 1) (λ t next. Open.Leaf (head kind t 0 0) next)
 headOf Variable counts s kind at = opening (checkedAt s (at + 1)) (at + 1) (λ v next. Open.Leaf (head kind v 0 0) next)
-headOf (Wrap p) counts s kind at = Open.One (head kind 0 0 1) p (at + 1)
-headOf (Modified p) counts s kind at = opening (tokenAt modTags counts s (at + 1)) (at + 1) (λ t next. Open.One (head kind t 0 1) p next)
-headOf (Counted p) counts s kind at = opening (countAt 1 maxNumber s (at + 1)) (at + 1) (λ c next. Open.All (head kind 0 0 c) p next)
+headOf (Wrap p) counts s kind at = Open.All (head kind 0 0 1) p (at + 1)
+headOf (Modified p) counts s kind at = opening (tokenAt modTags counts s (at + 1)) (at + 1) (λ t next. Open.All (head kind t 0 1) p next)
+headOf (Counted p) counts s kind at = Open.Shut 5 at
 headOf Array counts s kind at = Open.Array kind
 headOf Instance counts s kind at =
     cond (ltb (at + 1) (length s))

@@ -2,9 +2,12 @@
 ghost use mathlib.Core.Path.{_≡_};
 ghost use Prim.Native.Nat.{_+_, _<_};
 ghost use lib.ListN.{length};
+ghost use mathlib.Core.Bool.{true};
+ghost use Rattle.element.specs.Decided.{plain};
 ghost use Rattle.grammar.specs.Table.{kindOf};
 ghost use Rattle.grammar.specs.Judge.{allowed};
-ghost use Rattle.reader.specs.Open.{codeAt, instanceOf, headOf, openOf, callOf, genericOf, leadForm, leadOf};
+ghost use Rattle.reader.specs.Walk.{called};
+ghost use Rattle.reader.specs.Open.{codeOf, instanceOf, headOf, openOf, callOf, genericOf, leadForm, leadOf};
 use element::Form;
 use element::Place;
 use grammar::MAX_NODES;
@@ -12,7 +15,7 @@ use number::checked::Checked;
 use number::token::Counts;
 
 // The greatest number that has an encoding.
-const MAX_NUMBER: u32 = 0x1FFFFFFF;
+pub const MAX_NUMBER: u32 = 0x1FFFFFFF;
 // The tags below these are good in VALUETYPE, CLASS and GENERICINST, and in a modifier.
 const TYPE_TAGS: u32 = 2;
 
@@ -32,7 +35,7 @@ pub enum Code {
     Opens { byte: u8, form: Form },
 }
 
-// A type before its children: refused; without children; with one; with a method; with some in one place; an array, whose numbers
+// A type before its children: refused; without children; with a method; with one or more in one place; an array, whose numbers
 // stand behind its first child.
 pub enum Open {
     Shut {
@@ -41,11 +44,6 @@ pub enum Open {
     },
     Leaf {
         head: Head,
-        next: usize,
-    },
-    One {
-        head: Head,
-        child: Place,
         next: usize,
     },
     Method {
@@ -114,15 +112,10 @@ fn kind_of(place: Place, byte: u8) -> u32
     }
 }
 
-// The refusals at a code byte, in order: 2, 5, 6, 10.
-fn code_at(src: &[u8], place: Place, at: usize, n: usize, d: usize) -> Code
-    ensures { λ r. ⌜ r ≡ codeAt d (now (src .entry)) place at n ⌝ }
+// The refusals at a code byte that is there, in order: 5, 6, 10.
+pub fn code_of(form: Form, byte: u8, n: usize, d: usize) -> Code
+    ensures { λ r. ⌜ r ≡ codeOf d form byte n ⌝ }
 {
-    if src.len() <= at {
-        return Code::Shut { code: 2 };
-    }
-    let byte = src[at];
-    let form = element::form_of(place, byte);
     let good = is_allowed(form);
     if good {
         if d == 0 {
@@ -183,33 +176,12 @@ fn modified_at(src: &[u8], counts: Counts, child: Place, kind: u32, at: usize) -
 {
     let from = at + 1;
     match number::token::token_at(src, from, MOD_TAGS, counts) {
-        Checked::Good { value, next } => Open::One {
+        Checked::Good { value, next } => Open::All {
             head: Head {
                 kind,
                 a: value,
                 b: 0,
                 children: 1,
-            },
-            child,
-            next,
-        },
-        Checked::Bad { code } => Open::Shut { code, place: from },
-    }
-}
-
-// LOCALS: a count of at least 1, then that many children.
-fn counted_at(src: &[u8], counts: Counts, child: Place, kind: u32, at: usize) -> Open
-    requires { ⌜ at < length (now src) ⌝ }
-    ensures { λ r. ⌜ r ≡ headOf (Form.Counted child) counts (now (src .entry)) kind at ⌝ }
-{
-    let from = at + 1;
-    match number::checked::count_at(src, from, 1, MAX_NUMBER) {
-        Checked::Good { value, next } => Open::All {
-            head: Head {
-                kind,
-                a: 0,
-                b: 0,
-                children: value,
             },
             child,
             next,
@@ -293,7 +265,7 @@ fn head_at(src: &[u8], counts: Counts, form: Form, kind: u32, at: usize) -> Open
         },
         Form::Named => named_at(src, counts, kind, at),
         Form::Variable => variable_at(src, counts, kind, at),
-        Form::Wrap(child) => Open::One {
+        Form::Wrap(child) => Open::All {
             head: Head {
                 kind,
                 a: 0,
@@ -304,7 +276,7 @@ fn head_at(src: &[u8], counts: Counts, form: Form, kind: u32, at: usize) -> Open
             next: at + 1,
         },
         Form::Modified(child) => modified_at(src, counts, child, kind, at),
-        Form::Counted(child) => counted_at(src, counts, child, kind, at),
+        Form::Counted(_) => Open::Shut { code: 5, place: at },
         Form::Array => Open::Array { kind },
         Form::Instance => instance_at(src, counts, kind, at),
         Form::FnPtr => Open::Method {
@@ -321,16 +293,19 @@ fn head_at(src: &[u8], counts: Counts, form: Form, kind: u32, at: usize) -> Open
     }
 }
 
-// A type up to its children.
+// A type up to its children. Its kind is its code byte.
 pub fn open_at(src: &[u8], counts: Counts, place: Place, at: usize, n: usize, d: usize) -> Open
+    requires { ⌜ plain place ≡ true ⌝ }
     ensures { λ r. ⌜ r ≡ openOf d counts (now (src .entry)) place at n ⌝ }
 {
-    match code_at(src, place, at, n, d) {
+    if src.len() <= at {
+        return Open::Shut { code: 2, place: at };
+    }
+    let byte = src[at];
+    let form = element::type_form_of(place, byte);
+    match code_of(form, byte, n, d) {
         Code::Shut { code } => Open::Shut { code, place: at },
-        Code::Opens { byte, form } => {
-            let kind = kind_of(place, byte);
-            head_at(src, counts, form, kind, at)
-        }
+        Code::Opens { byte: b, form: f } => head_at(src, counts, f, byte32(b), at),
     }
 }
 
@@ -388,13 +363,19 @@ fn lead_of(src: &[u8], form: Form, kind: u32, byte: u8, at: usize) -> Lead
 
 // A method up to its return type: its lead byte, its generic count where it has one, and its ParamCount.
 pub fn lead_at(src: &[u8], place: Place, at: usize, n: usize, d: usize) -> Lead
+    requires { ⌜ called place ≡ true ⌝ }
     ensures { λ r. ⌜ r ≡ leadOf d (now (src .entry)) place at n ⌝ }
 {
-    match code_at(src, place, at, n, d) {
+    if src.len() <= at {
+        return Lead::Shut { code: 2, place: at };
+    }
+    let byte = src[at];
+    let form = element::lead_form_of(place, byte);
+    match code_of(form, byte, n, d) {
         Code::Shut { code } => Lead::Shut { code, place: at },
-        Code::Opens { byte, form } => {
-            let kind = kind_of(place, byte);
-            lead_of(src, form, kind, byte, at)
+        Code::Opens { byte: b, form: f } => {
+            let kind = kind_of(place, b);
+            lead_of(src, f, kind, b, at)
         }
     }
 }

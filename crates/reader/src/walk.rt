@@ -1,16 +1,20 @@
 // The walk over a blob: one cycle of calls over the depth left, with the lent table written inside it. A node's record is put once,
 // after its children are read, where it fits; so the same walk judges, on an empty part of the table, and fills.
 ghost use mathlib.Core.Path.{_≡_};
-ghost use mathlib.Core.Bool.{true, false};
+ghost use mathlib.Core.Bool.{true};
 ghost use Prim.Native.Nat.{_+_, _≤_, _<_};
 ghost use lib.ListN.{length};
-ghost use Rattle.grammar.specs.Judge.{judge, known, node, many, bound};
+ghost use Rattle.element.specs.Decided.{plain};
+ghost use Rattle.element.specs.declared.Place.the-variants as Place;
+ghost use Rattle.grammar.specs.Judge.{judge, node, many, bound};
 ghost use Rattle.grammar.specs.Kinds.{rootOf};
 ghost use Rattle.reader.specs.Walk.{putOf, smallOf, Sealed, Walked, Shaped, lowsOf, shapeOf, arrayOf, called, Judged};
 use crate::Answer;
 use crate::open;
+use crate::open::Code;
 use crate::open::Head;
 use crate::open::Lead;
+use crate::open::MAX_NUMBER;
 use crate::open::Open;
 use element::Place;
 use grammar::MAX_BYTES;
@@ -21,6 +25,10 @@ use grammar::MAX_RANK;
 use grammar::Node;
 use number::checked::Checked;
 use number::token::Counts;
+
+const FIELD: u32 = 0x101;
+
+const LOCALS: u32 = 0x102;
 
 const SIZE: u32 = 0x104;
 
@@ -209,7 +217,7 @@ fn lows_at(
     }
 }
 
-// A type, in any place but a method's: the node with index n, for which d levels are left.
+// A type: the node with index n, for which d levels are left.
 fn type_at(
     out: &mut [u32],
     d: usize,
@@ -219,32 +227,10 @@ fn type_at(
     at: usize,
     n: usize,
 ) -> Walk
-    requires { ⌜ (length (now src) ≤ 4096) × (called place ≡ false) ⌝ }
+    requires { ⌜ (length (now src) ≤ 4096) × (plain place ≡ true) ⌝ }
     ensures { λ r. ⌜ Walked (node d (now (src .entry)) counts place at n) n r (now (out .entry)) (now (out .exit)) ⌝ }
 {
-    match open::open_at(src, counts, place, at, n, d) {
-        Open::Shut { code, place: p } => Walk::Stop { code, place: p },
-        Open::Leaf { head, next } => {
-            let w = Walk::Next {
-                at: next,
-                node: n + 1,
-            };
-            seal(out, n, head, at, w)
-        }
-        Open::One { head, child, next } => {
-            let w = type_at(out, d - 1, src, counts, child, next, n + 1);
-            seal(out, n, head, at, w)
-        }
-        Open::Method { head, next } => {
-            let w = method_at(out, d - 1, src, counts, Place::FnPtrMethod, next, n + 1);
-            seal(out, n, head, at, w)
-        }
-        Open::All { head, child, next } => {
-            let w = items_at(out, d - 1, src, counts, child, head.children, next, n + 1);
-            seal(out, n, head, at, w)
-        }
-        Open::Array { kind } => array_at(out, d - 1, src, counts, kind, at, n),
-    }
+    types_at(out, d, src, counts, place, 1, at, n)
 }
 
 // A method: its return type and its parameters are types again.
@@ -272,7 +258,7 @@ fn method_at(
             n + 1,
         ) {
             Walk::Next { at: e, node: m } => {
-                let w = items_at(out, d - 1, src, counts, Place::Param, count, e, m);
+                let w = types_at(out, d - 1, src, counts, Place::Param, count, e, m);
                 seal(out, n, head, at, w)
             }
             Walk::Stop { code, place: p } => Walk::Stop { code, place: p },
@@ -280,8 +266,8 @@ fn method_at(
     }
 }
 
-// `count` types one after the other.
-fn items_at(
+// `count` types one after the other. A type without children takes no call.
+fn types_at(
     out: &mut [u32],
     d: usize,
     src: &[u8],
@@ -291,14 +277,33 @@ fn items_at(
     at: usize,
     n: usize,
 ) -> Walk
-    requires { ⌜ (length (now src) ≤ 4096) × (called place ≡ false) ⌝ }
+    requires { ⌜ (length (now src) ≤ 4096) × (plain place ≡ true) ⌝ }
     ensures { λ r. ⌜ Walked (many (node d (now (src .entry)) counts place) count at n) n r (now (out .entry)) (now (out .exit)) ⌝ }
 {
     let mut left = count;
     let mut e = at;
     let mut m = n;
     while 0 < left {
-        match type_at(out, d, src, counts, place, e, m) {
+        let w = match open::open_at(src, counts, place, e, m, d) {
+            Open::Shut { code, place: p } => Walk::Stop { code, place: p },
+            Open::Leaf { head, next } => {
+                let leaf = Walk::Next {
+                    at: next,
+                    node: m + 1,
+                };
+                seal(out, m, head, e, leaf)
+            }
+            Open::Method { head, next } => {
+                let method = method_at(out, d - 1, src, counts, Place::FnPtrMethod, next, m + 1);
+                seal(out, m, head, e, method)
+            }
+            Open::All { head, child, next } => {
+                let all = types_at(out, d - 1, src, counts, child, head.children, next, m + 1);
+                seal(out, m, head, e, all)
+            }
+            Open::Array { kind } => array_at(out, d - 1, src, counts, kind, e, m),
+        };
+        match w {
             Walk::Next { at: e2, node: m2 } => {
                 e = e2;
                 m = m2;
@@ -339,15 +344,95 @@ fn array_at(
     }
 }
 
+// A TypeSpec: a type, but a first byte of 11 or 12 is refused.
+fn spec_at(out: &mut [u32], counts: Counts, src: &[u8]) -> Walk
+    requires { ⌜ length (now src) ≤ 4096 ⌝ }
+    ensures { λ r. ⌜ Walked (node 32 (now (src .entry)) counts Place.TypeSpec 0 0) 0 r (now (out .entry)) (now (out .exit)) ⌝ }
+{
+    if src.len() == 0 {
+        return Walk::Stop { code: 2, place: 0 };
+    }
+    let first = src[0];
+    let form = element::type_spec_form(first);
+    match open::code_of(form, first, 0, MAX_DEPTH) {
+        Code::Shut { code } => Walk::Stop { code, place: 0 },
+        Code::Opens { byte: _, form: _ } => {
+            type_at(out, MAX_DEPTH, src, counts, Place::ModifiedSpec, 0, 0)
+        }
+    }
+}
+
+// A FieldSig: one type.
+fn field_at(out: &mut [u32], counts: Counts, src: &[u8]) -> Walk
+    requires { ⌜ length (now src) ≤ 4096 ⌝ }
+    ensures { λ r. ⌜ Walked (node 32 (now (src .entry)) counts Place.FieldSig 0 0) 0 r (now (out .entry)) (now (out .exit)) ⌝ }
+{
+    if src.len() == 0 {
+        return Walk::Stop { code: 2, place: 0 };
+    }
+    let first = src[0];
+    let form = element::field_sig_form(first);
+    match open::code_of(form, first, 0, MAX_DEPTH) {
+        Code::Shut { code } => Walk::Stop { code, place: 0 },
+        Code::Opens { byte: _, form: _ } => {
+            let w = type_at(out, MAX_DEPTH - 1, src, counts, Place::Type, 1, 1);
+            let head = Head {
+                kind: FIELD,
+                a: 0,
+                b: 0,
+                children: 1,
+            };
+            seal(out, 0, head, 0, w)
+        }
+    }
+}
+
+// A LocalVarSig: a count of at least 1, then that many types.
+fn locals_at(out: &mut [u32], counts: Counts, src: &[u8]) -> Walk
+    requires { ⌜ length (now src) ≤ 4096 ⌝ }
+    ensures { λ r. ⌜ Walked (node 32 (now (src .entry)) counts Place.LocalVarSig 0 0) 0 r (now (out .entry)) (now (out .exit)) ⌝ }
+{
+    if src.len() == 0 {
+        return Walk::Stop { code: 2, place: 0 };
+    }
+    let first = src[0];
+    let form = element::local_var_sig_form(first);
+    match open::code_of(form, first, 0, MAX_DEPTH) {
+        Code::Shut { code } => Walk::Stop { code, place: 0 },
+        Code::Opens { byte: _, form: _ } => match number::checked::count_at(src, 1, 1, MAX_NUMBER) {
+            Checked::Good { value, next } => {
+                let w = types_at(
+                    out,
+                    MAX_DEPTH - 1,
+                    src,
+                    counts,
+                    Place::Local,
+                    value,
+                    next,
+                    1,
+                );
+                let head = Head {
+                    kind: LOCALS,
+                    a: 0,
+                    b: 0,
+                    children: value,
+                };
+                seal(out, 0, head, 0, w)
+            }
+            Checked::Bad { code } => Walk::Stop { code, place: 1 },
+        },
+    }
+}
+
 // The root of a kind.
 fn root_at(out: &mut [u32], kind: u32, counts: Counts, src: &[u8]) -> Walk
     requires { ⌜ (length (now src) ≤ 4096) × (kind ≤ 4) ⌝ }
     ensures { λ r. ⌜ Walked (node 32 (now (src .entry)) counts (rootOf kind) 0 0) 0 r (now (out .entry)) (now (out .exit)) ⌝ }
 {
     match kind {
-        0 => type_at(out, MAX_DEPTH, src, counts, Place::TypeSpec, 0, 0),
-        1 => type_at(out, MAX_DEPTH, src, counts, Place::FieldSig, 0, 0),
-        2 => type_at(out, MAX_DEPTH, src, counts, Place::LocalVarSig, 0, 0),
+        0 => spec_at(out, counts, src),
+        1 => field_at(out, counts, src),
+        2 => locals_at(out, counts, src),
         3 => method_at(out, MAX_DEPTH, src, counts, Place::PropertySig, 0, 0),
         _ => method_at(out, MAX_DEPTH, src, counts, Place::MethodDefSig, 0, 0),
     }

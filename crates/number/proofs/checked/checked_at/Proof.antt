@@ -1,7 +1,7 @@
 -- `number::checked::checked_at` meets its contract. Assumes nothing.
 use borrow.Author.Needs.{needs}
 use Rattle.number.specs.Checked.{checked}
-use Rattle.number.proofs.Checks.{checks}
+use Rattle.number.proofs.Checks.{checks, check-small}
 use Rattle.number.proofs.checked.checked_at.Statement.{statement}
 use Rattle.number.proofs.checked.checked_at.Tie as tie
 
@@ -10,6 +10,9 @@ unfolding checked
 checked-at-spec =
     tie.close
     (tie.spec
+    (λ c κs. search needs)
+    (λ c. search needs)
+    (λ c. check-small _ _ _ (c .before .before .if1 .taken) (c .before .byte .ensures .0) (c .if2 .taken))
     (λ c κs. search needs)
     (λ c. search needs)
     (λ c. search needs)

@@ -1,6 +1,7 @@
 -- `reader::open::lead_at` meets its contract. Assumes nothing.
+use mathlib.Core.Path.{_∙_}
 use borrow.Author.Needs.{needs}
-use Rattle.reader.proofs.Heads.{lead-shut, code-here, lead-form}
+use Rattle.reader.proofs.Heads.{lead-none, called-form, code-some, lead-shut, lead-form}
 use Rattle.reader.proofs.open.lead_at.Statement.{statement}
 use Rattle.reader.proofs.open.lead_at.Tie as tie
 
@@ -8,10 +9,13 @@ pub lead-at-spec : {M : Type 1} → statement M
 lead-at-spec =
     tie.close
     (tie.spec
+    (λ c. lead-none _ _ _ _ _ (c .if1 .taken))
+    (λ c. search needs)
+    (λ c κs. search needs)
     (λ c κs. search needs)
     (λ c. search needs)
     (λ c. search needs)
     (λ c κs. search needs)
-    (λ c κs. code-here _ _ _ _ _ _ (c .before .before .before .before .code-at .ensures) _ _ (c .before .before .byte .given .1))
-    (λ c. lead-shut _ _ _ _ _ _ (c .before .before .before .code-at .ensures) _ (c .before .code .given .1))
-    (λ c. lead-form _ _ _ _ _ _ (c .before .before .before .before .before .code-at .ensures) _ _ (c .before .before .before .byte .given .1) _ _ (c .before .kind-of .ensures) (c .lead-of .ensures)))
+    (λ c κs. c .before .before .before .before .before .before .before .if1 .left)
+    (λ c. lead-shut _ _ _ _ _ _ (code-some _ _ _ _ _ _ _ (c .before .before .before .before .before .before .if1 .left) (c .before .before .before .before .lead-form-of .ensures ∙ called-form _ _ (c .before .before .before .before .before .before .before .before .pre)) (c .before .before .before .code-of .ensures)) _ (c .before .code .given .1))
+    (λ c. lead-form _ _ _ _ _ _ (code-some _ _ _ _ _ _ _ (c .before .before .before .before .before .before .before .before .if1 .left) (c .before .before .before .before .before .before .lead-form-of .ensures ∙ called-form _ _ (c .before .before .before .before .before .before .before .before .before .before .pre)) (c .before .before .before .before .before .code-of .ensures)) _ _ (c .before .before .before .b .given .1) _ _ (c .before .kind-of .ensures) (c .lead-of .ensures)))

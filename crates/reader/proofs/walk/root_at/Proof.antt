@@ -1,8 +1,8 @@
 -- `reader::walk::root_at` meets its contract. Assumes nothing.
-use borrow.Author.Needs.{needs}
 use mathlib.Core.Path.{_≡_, refl}
 use native.Mathlib.Omega.{arith}
 use Rattle.reader.proofs.Steps.{root-is}
+use borrow.Author.Needs.{needs}
 use Rattle.reader.proofs.walk.root_at.Statement.{statement}
 use Rattle.reader.proofs.walk.root_at.Tie as tie
 
@@ -10,17 +10,17 @@ pub root-at-spec : {M : Type 1} → statement M
 root-at-spec =
     tie.close
     (tie.spec
-    (λ c κs. (c .before .before .before .before .pre .0, refl))
-    (λ c κs. (c .before .before .before .before .pre .0, refl))
-    (λ c κs. (c .before .before .before .before .pre .0, refl))
+    (λ c κs. c .before .before .before .before .pre .0)
+    (λ c κs. c .before .before .before .before .pre .0)
+    (λ c κs. c .before .before .before .before .pre .0)
     (λ c κs. (c .before .before .before .before .pre .0, refl))
     (λ c κs. (c .before .before .before .before .pre .0, refl))
     (λ c. search needs)
-    (λ c. root-is _ _ _ 0 _ _ _ (c .before .before .before .before .match .keys1) (c .before .before .type-at .ensures))
+    (λ c. root-is _ _ _ 0 _ _ _ (c .before .before .before .before .match .keys1) (c .before .before .spec-at .ensures))
     (λ c. search needs)
-    (λ c. root-is _ _ _ 1 _ _ _ (c .before .before .before .before .match .keys2) (c .before .before .type-at2 .ensures))
+    (λ c. root-is _ _ _ 1 _ _ _ (c .before .before .before .before .match .keys2) (c .before .before .field-at .ensures))
     (λ c. search needs)
-    (λ c. root-is _ _ _ 2 _ _ _ (c .before .before .before .before .match .keys3) (c .before .before .type-at3 .ensures))
+    (λ c. root-is _ _ _ 2 _ _ _ (c .before .before .before .before .match .keys3) (c .before .before .locals-at .ensures))
     (λ c. search needs)
     (λ c. root-is _ _ _ 3 _ _ _ (c .before .before .before .before .match .keys4) (c .before .before .method-at .ensures))
     (λ c. search needs)
