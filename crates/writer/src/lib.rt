@@ -32,12 +32,12 @@ fn same_numbers(a: &[u32], b: &[u32]) -> bool
     true
 }
 
-// Whether the reader takes the whole blob and gives this table.
-fn confirms(kind: u32, counts: Counts, blob: &[u8], table: &[u32]) -> bool
+// Whether the reader takes the whole blob and gives this table, read into records that are lent.
+fn confirms_in(seen: &mut [u32], kind: u32, counts: Counts, blob: &[u8], table: &[u32]) -> bool
+    requires { ⌜ length (now table) ≤ length (now seen) ⌝ }
     ensures { λ r. ⌜ r ≡ isTable (now (table .entry)) (judge kind counts (now (blob .entry))) ⌝ }
 {
-    let mut seen = [0u32; 6144];
-    let answer = reader::read(kind, counts, blob, &mut seen);
+    let answer = reader::read(kind, counts, blob, seen);
     let code = answer.code;
     let nodes = answer.place;
     if code != 0 {
@@ -45,6 +45,25 @@ fn confirms(kind: u32, counts: Counts, blob: &[u8], table: &[u32]) -> bool
     }
     let end = 6 * nodes;
     same_numbers(&seen[..end], table)
+}
+
+// Whether the reader takes the whole blob and gives this table. Its own records are as few as the table allows, since they are cleared.
+fn confirms(kind: u32, counts: Counts, blob: &[u8], table: &[u32]) -> bool
+    ensures { λ r. ⌜ r ≡ isTable (now (table .entry)) (judge kind counts (now (blob .entry))) ⌝ }
+{
+    if table.len() <= 96 {
+        let mut few = [0u32; 96];
+        return confirms_in(&mut few, kind, counts, blob, table);
+    }
+    if table.len() <= 768 {
+        let mut some = [0u32; 768];
+        return confirms_in(&mut some, kind, counts, blob, table);
+    }
+    if table.len() <= 6144 {
+        let mut seen = [0u32; 6144];
+        return confirms_in(&mut seen, kind, counts, blob, table);
+    }
+    false
 }
 
 // Copies `src` to the front of `out`.
