@@ -131,10 +131,7 @@ confirms-over kind counts s t h = go (judge kind counts s) (ends-judge kind coun
 pub part-length : (n : ℕ) (o : List ℕ) → n ≤ length o → n ≡ length (take n o)
 part-length n o h = sym (length-take-le n o h)
 
--- ---- write_known: y is what emitting gave, o₁ what it left of 4,096 bytes
-
-abbrev blank : List ℕ
-blank = replicate 4096 0
+-- ---- copy_confirmed: s is the blob, o the output
 
 -- more bytes than a blob has are refused
 judge-long : (kind : ℕ) (counts : Counts) (s t : List ℕ) → maxBytes < length s → isTable t (judge kind counts s) ≡ false
@@ -151,64 +148,67 @@ abbrev Gives : Answer → (after before : List ℕ) → (kind : ℕ) → Counts 
 Gives r after before kind counts t q =
     (r ≡ answerOf (confirmed kind counts t (length before) q)) × (after ≡ outputOf (confirmed kind counts t (length before) q) before)
 
-module _ (t : List ℕ) (y : Emit) (o₁ : List ℕ) (x : Emits (emitted t) 0 y blank o₁) (at n : ℕ) (g : y ≡ Next at n) where
+module _ (kind : ℕ) (counts : Counts) (t s o : List ℕ) where
+  pub copy-not : false ≡ isTable t (judge kind counts s) → Gives (reader.answer 14 0) o o kind counts t (wrote s 0)
+  unfolding answerOf outputOf
+  copy-not e = rw (← e) (refl, refl)
+
+  module _ (e : true ≡ isTable t (judge kind counts s)) where
+    pub copy-short : length o < length s → Gives (reader.answer 15 (length s)) o o kind counts t (wrote s 0)
+    unfolding answerOf outputOf
+    copy-short h = rw (← e, lt-leb (length s) (length o) h) (refl, refl)
+
+    pub copy-done : (o₁ : List ℕ) → length s ≤ length o → o₁ ≡ s ++ drop (length s) o → Gives (reader.answer 0 (length s)) o₁ o kind counts t (wrote s 0)
+    unfolding answerOf outputOf
+    copy-done o₁ h j = rw (← e, le-leb (length s) (length o) h) (refl, j)
+
+-- ---- write_known: y is what emitting gave, o₁ what it left of the bytes b
+
+module _ (t : List ℕ) (y : Emit) (b o₁ : List ℕ) (x : Emits (emitted t) 0 y b o₁) (at n : ℕ) (g : y ≡ Next at n) where
   pub blob-within : at ≤ length o₁
-  blob-within = next-within (emitted t) 0 at n blank o₁ (found _ 0 y _ blank o₁ g x)
+  blob-within = next-within (emitted t) 0 at n b o₁ (found _ 0 y _ b o₁ g x)
 
   pub blob-length : length (take at o₁) ≡ at
   blob-length = length-take-le at o₁ blob-within
 
-  pub blob-fits : (room : ℕ) → at ≤ room → length (take at o₁) ≤ room
-  blob-fits room h = rw blob-length h
-
-module _ (kind : ℕ) (counts : Counts) (t : List ℕ) (y : Emit) (o₁ : List ℕ) (x : Emits (emitted t) 0 y blank o₁) where
-  pub write-stop : (o : List ℕ) → y ≡ Stop → Gives (reader.answer 14 0) o o kind counts t (emitted t)
-  unfolding answerOf outputOf resultOf
-  write-stop o g = go (emitted t) x
+  blob-emitted : emitted t ≡ wrote (take at o₁) n
+  unfolding resultOf leavesOf
+  blob-emitted = go (emitted t) x
     where
-      by-fit : (bs : List ℕ) (n : ℕ) → Fit bs 0 (length blank) y (Next (0 + length bs) n) → Gives (reader.answer 14 0) o o kind counts t (wrote bs n)
-      by-fit bs n (fits h e) = clash (sym g ∙ e)
-      by-fit bs n (over h e) =
-          let k : maxBytes < length bs = omega (arith, length-replicate {A = ℕ} 4096 0) in
-          rw (judge-long kind counts bs t k) (refl, refl)
+      by-fit : (bs : List ℕ) (m : ℕ) → (0 + length bs ≤ length b → o₁ ≡ sets b 0 bs) → Fit bs 0 (length b) y (Next (0 + length bs) m) → wrote bs m ≡ wrote (take at o₁) n
+      by-fit bs m f (fits h e) =
+          let w : Next at n ≡ Next (0 + length bs) m = sym g ∙ e in
+          let i : at ≡ 0 + length bs = cc in
+          let j : n ≡ m = cc in
+          let l : length bs ≡ at = omega arith in
+          let v : o₁ ≡ bs ++ drop (0 + length bs) b = f h ∙ sets-eq bs b 0 h in
+          let u : take at o₁ ≡ bs = ap (take at) v ∙ take-at bs _ at l in
+          sym (ap (λ (z : List ℕ). wrote z n) u ∙ ap (wrote bs) j)
+      by-fit bs m f (over h e) = clash (sym e ∙ g)
 
-      go : (q : Emitted) → Emits q 0 y blank o₁ → Gives (reader.answer 14 0) o o kind counts t q
-      go torn z = (refl, refl)
-      go (wrote bs n) z = by-fit bs n (fit bs n 0 (length blank) y (z .result))
+      go : (q : Emitted) → Emits q 0 y b o₁ → q ≡ wrote (take at o₁) n
+      go torn z = clash (sym (z .result) ∙ g)
+      go (wrote bs m) z = by-fit bs m (z .left) (fit bs m 0 (length b) y (z .result))
 
-  module _ (at n : ℕ) (g : y ≡ Next at n) where
-    blob-emitted : emitted t ≡ wrote (take at o₁) n
-    unfolding resultOf leavesOf
-    blob-emitted = go (emitted t) x
-      where
-        by-fit : (bs : List ℕ) (m : ℕ) → (0 + length bs ≤ length blank → o₁ ≡ sets blank 0 bs) → Fit bs 0 (length blank) y (Next (0 + length bs) m) → wrote bs m ≡ wrote (take at o₁) n
-        by-fit bs m f (fits h e) =
-            let w : Next at n ≡ Next (0 + length bs) m = sym g ∙ e in
-            let i : at ≡ 0 + length bs = cc in
-            let j : n ≡ m = cc in
-            let l : length bs ≡ at = omega arith in
-            let v : o₁ ≡ bs ++ drop (0 + length bs) blank = f h ∙ sets-eq bs blank 0 h in
-            let u : take at o₁ ≡ bs = ap (take at) v ∙ take-at bs _ at l in
-            sym (ap (λ (b : List ℕ). wrote b n) u ∙ ap (wrote bs) j)
-        by-fit bs m f (over h e) = clash (sym e ∙ g)
+  pub write-copied : (kind : ℕ) (counts : Counts) (o : List ℕ) (r : Answer) (o₂ : List ℕ) → Gives r o₂ o kind counts t (wrote (take at o₁) 0) → Gives r o₂ o kind counts t (emitted t)
+  write-copied kind counts o r o₂ h = rw blob-emitted h
 
-        go : (q : Emitted) → Emits q 0 y blank o₁ → q ≡ wrote (take at o₁) n
-        go torn z = clash (sym (z .result) ∙ g)
-        go (wrote bs m) z = by-fit bs m (z .left) (fit bs m 0 (length blank) y (z .result))
+abbrev blank : List ℕ
+blank = replicate 4096 0
 
-    pub write-not : (o : List ℕ) → false ≡ isTable t (judge kind counts (take at o₁)) → Gives (reader.answer 14 0) o o kind counts t (emitted t)
-    unfolding answerOf outputOf
-    write-not o e = rw (blob-emitted, ← e) (refl, refl)
+pub write-stop : (kind : ℕ) (counts : Counts) (t : List ℕ) (y : Emit) (o₁ : List ℕ) → Emits (emitted t) 0 y blank o₁ → (o : List ℕ) → y ≡ Stop → Gives (reader.answer 14 0) o o kind counts t (emitted t)
+unfolding answerOf outputOf resultOf
+write-stop kind counts t y o₁ x o g = go (emitted t) x
+  where
+    by-fit : (bs : List ℕ) (n : ℕ) → Fit bs 0 (length blank) y (Next (0 + length bs) n) → Gives (reader.answer 14 0) o o kind counts t (wrote bs n)
+    by-fit bs n (fits h e) = clash (sym g ∙ e)
+    by-fit bs n (over h e) =
+        let k : maxBytes < length bs = omega (arith, length-replicate {A = ℕ} 4096 0) in
+        rw (judge-long kind counts bs t k) (refl, refl)
 
-    module _ (o : List ℕ) (e : true ≡ isTable t (judge kind counts (take at o₁))) where
-      pub write-short : length o < at → Gives (reader.answer 15 at) o o kind counts t (emitted t)
-      unfolding answerOf outputOf
-      write-short h = rw (blob-emitted, ← e, blob-length t y o₁ x at n g, lt-leb at (length o) h) (refl, refl)
-
-      pub write-done : (o₂ : List ℕ) → at ≤ length o → o₂ ≡ take at o₁ ++ drop (length (take at o₁)) o → Gives (reader.answer 0 at) o₂ o kind counts t (emitted t)
-      unfolding answerOf outputOf
-      write-done o₂ h j =
-          rw (blob-emitted, ← e, le-leb _ _ (blob-fits t y o₁ x at n g (length o) h)) (ap (reader.answer 0) (sym (blob-length t y o₁ x at n g)), j)
+    go : (q : Emitted) → Emits q 0 y blank o₁ → Gives (reader.answer 14 0) o o kind counts t q
+    go torn z = (refl, refl)
+    go (wrote bs n) z = by-fit bs n (fit bs n 0 (length blank) y (z .result))
 
 -- ---- write
 

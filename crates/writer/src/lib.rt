@@ -5,7 +5,7 @@ ghost use mathlib.Core.List.{_++_};
 ghost use Prim.Native.Nat.{_≤_};
 ghost use lib.ListN.{length, drop};
 ghost use Rattle.grammar.specs.Judge.{judge};
-ghost use Rattle.grammar.specs.Emit.{emitted};
+ghost use Rattle.grammar.specs.Emit.{wrote, emitted};
 ghost use Rattle.grammar.specs.Writer.{same, isTable, confirmed, writing};
 ghost use Rattle.writer.specs.Written.{answerOf, outputOf};
 use crate::emit::Emit;
@@ -91,25 +91,42 @@ pub fn write(kind: u32, counts: Counts, table: &[u32], out: &mut [u8]) -> Answer
     Answer { code: 13, place: 0 }
 }
 
-// The writer for a known kind and allowed counts.
+// The writer for a known kind and allowed counts. Few records are first emitted into few bytes, since the bytes are cleared; what does not fit there
+// is emitted again.
 fn write_known(kind: u32, counts: Counts, table: &[u32], out: &mut [u8]) -> Answer
     ensures { λ r. ⌜ (r ≡ answerOf (confirmed kind counts (now (table .entry)) (length (now (out .entry))) (emitted (now (table .entry))))) × (now (out .exit) ≡ outputOf (confirmed kind counts (now (table .entry)) (length (now (out .entry))) (emitted (now (table .entry)))) (now (out .entry))) ⌝ }
 {
+    if table.len() <= 96 {
+        let mut few = [0u8; 128];
+        match emit::emit_at(&mut few, MAX_DEPTH, table, 0, 0) {
+            Emit::Next { at, node } => return copy_confirmed(kind, counts, &few[..at], table, out),
+            Emit::Stop => {}
+        }
+    }
     let mut blob = [0u8; 4096];
     match emit::emit_at(&mut blob, MAX_DEPTH, table, 0, 0) {
-        Emit::Next { at, node } => {
-            if confirms(kind, counts, &blob[..at], table) {
-                if out.len() < at {
-                    return Answer {
-                        code: 15,
-                        place: at,
-                    };
-                }
-                copy_to(out, &blob[..at]);
-                return Answer { code: 0, place: at };
-            }
-            Answer { code: 14, place: 0 }
-        }
+        Emit::Next { at, node } => copy_confirmed(kind, counts, &blob[..at], table, out),
         Emit::Stop => Answer { code: 14, place: 0 },
     }
+}
+
+// Copies an emitted blob to the output where the reader gives the table for it.
+fn copy_confirmed(kind: u32, counts: Counts, blob: &[u8], table: &[u32], out: &mut [u8]) -> Answer
+    ensures { λ r. ⌜ (r ≡ answerOf (confirmed kind counts (now (table .entry)) (length (now (out .entry))) (wrote (now (blob .entry)) 0))) × (now (out .exit) ≡ outputOf (confirmed kind counts (now (table .entry)) (length (now (out .entry))) (wrote (now (blob .entry)) 0)) (now (out .entry))) ⌝ }
+{
+    let len = blob.len();
+    if confirms(kind, counts, blob, table) {
+        if out.len() < len {
+            return Answer {
+                code: 15,
+                place: len,
+            };
+        }
+        copy_to(out, blob);
+        return Answer {
+            code: 0,
+            place: len,
+        };
+    }
+    Answer { code: 14, place: 0 }
 }
