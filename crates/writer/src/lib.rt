@@ -16,20 +16,22 @@ use reader::Answer;
 
 mod emit;
 
+// Compares to the end, in any case: a loop without an exit is compiled to wide instructions.
 fn same_numbers(a: &[u32], b: &[u32]) -> bool
     ensures { λ r. ⌜ r ≡ same (now (a .entry)) (now (b .entry)) ⌝ }
 {
     if a.len() != b.len() {
         return false;
     }
+    let mut equal = true;
     let mut i = 0;
     while i < a.len() {
         if a[i] != b[i] {
-            return false;
+            equal = false;
         }
         i += 1;
     }
-    true
+    equal
 }
 
 // Whether the reader takes the whole blob and gives this table, read into records that are lent.
