@@ -45,12 +45,21 @@ module _ (a b : List ℕ) (i : ℕ) (h : i < length a) (e : length a ≡ length 
   unfolding same
   here = let k : i < length b = omega arith in rw (drop-cons a i 0 h, drop-cons b i 0 k)
 
-  pub same-differ : (getD a i 0 ≡ getD b i 0 → ⊥) → false ≡ same (drop i a) (drop i b)
-  same-differ g = sym (here ∙ rw (ne-eqb (getD a i 0) (getD b i 0) g))
+  -- k: whether all was the same before i, and k₁ up to i
+  pub same-differ : (k k₁ : Bool) → (getD a i 0 ≡ getD b i 0 → ⊥) → k₁ ≡ false → (k₁ && same (drop (i + 1) a) (drop (i + 1) b)) ≡ (k && same (drop i a) (drop i b))
+  same-differ k k₁ g q = rw (q, here, ne-eqb (getD a i 0) (getD b i 0) g) (go k)
+    where
+      go : (t : Bool) → false ≡ (t && false)
+      go true = refl
+      go false = refl
 
-  pub same-step : getD a i 0 ≡ getD b i 0 → same (drop (i + 1) a) (drop (i + 1) b) ≡ same (drop i a) (drop i b)
-  same-step g = rw add-one (sym (here ∙ rw (eq-eqb (getD a i 0) (getD b i 0) g)))
+  pub same-step : (k k₁ : Bool) → getD a i 0 ≡ getD b i 0 → k₁ ≡ k → (k₁ && same (drop (i + 1) a) (drop (i + 1) b)) ≡ (k && same (drop i a) (drop i b))
+  same-step k k₁ g q = rw (q, add-one, here, eq-eqb (getD a i 0) (getD b i 0) g) refl
 
-pub same-end : (a b : List ℕ) (i : ℕ) → length a ≡ length b → length a ≤ i → true ≡ same (drop i a) (drop i b)
+pub same-end : (a b : List ℕ) (i : ℕ) (k : Bool) → length a ≡ length b → length a ≤ i → k ≡ (k && same (drop i a) (drop i b))
 unfolding same
-same-end a b i e g = let k : length b ≤ i = omega arith in rw (drop-of-length-le a g, drop-of-length-le b k)
+same-end a b i k e g = let h : length b ≤ i = omega arith in rw (drop-of-length-le a g, drop-of-length-le b h) (go k)
+  where
+    go : (t : Bool) → t ≡ (t && true)
+    go true = refl
+    go false = refl

@@ -3,16 +3,16 @@
 use Prim.Native.Nat.{ℕ, zero, suc, _+_, _-_, _/_, _≤_, _<_}
 use native.Mathlib.Omega.{arith}
 use mathlib.Core.Path.{_≡_, refl, sym, ap, _∙_}
-use mathlib.Core.Bool.{Bool, true, false, cond}
+use mathlib.Core.Bool.{Bool, true, false, cond, _&&_}
 use mathlib.Core.List.{List, [], _∷_, _++_, append-assoc, append-nil}
 use lib.ListN.{length}
-use lib.Dec.{leb, eqb}
-use borrow.Author.Tests.{eqb-true, eq-eqb, ne-eqb, le-leb, lt-leb}
+use lib.Dec.{ltb, leb, eqb}
+use borrow.Author.Tests.{ltb-true, eqb-true, lt-ltb, le-ltb, le-leb, lt-leb, eq-eqb, ne-eqb}
 use Rattle.number.specs.Number.{encode}
 use Rattle.grammar.specs.Table.{recordAt}
 use Rattle.grammar.specs.Emit.{Layout, plain, array, callable, layouts, layoutIn, layoutOf, lowsOf, partsOf, Emitted, torn, wrote, andThen, spell, times, parts, emit}
 use Rattle.grammar.specs.declared.Node.{Node}
-use Rattle.writer.specs.Emission.{numbersOf, frontOf, spelled, followed, Emits}
+use Rattle.writer.specs.Emission.{numbersOf, frontOf, leaf, spelled, followed, Emits}
 use Rattle.writer.specs.declared.emit.Emit.{Emit}
 use Rattle.writer.specs.declared.emit.Emit.the-variants.{Next, Stop}
 use Rattle.writer.specs.declared.emit.Front.{Front}
@@ -55,6 +55,34 @@ front-rest r a b c d e f g h i j k l m =
     go : (b : Bool) → r .kind ∷ [] ≡ frontOf (cond b array plain) r
     go true = refl
     go false = refl
+
+-- ---- leaves
+
+pub leaf-low : (r : Node) → r .kind < 0x11 → eqb (r .children) 0 ≡ leaf r
+unfolding leaf
+leaf-low r h = rw (lt-ltb (r .kind) 0x11 h)
+
+pub leaf-high : (r : Node) → 0x11 ≤ r .kind → false ≡ leaf r
+unfolding leaf
+leaf-high r h = rw (le-ltb (r .kind) 0x11 h)
+
+leaf-both : (r : Node) → leaf r ≡ true → (r .kind < 0x11) × (r .children ≡ 0)
+unfolding leaf
+leaf-both r e = go (ltb (r .kind) 0x11) refl (eqb (r .children) 0) refl e
+  where
+    go : (s : Bool) → ltb (r .kind) 0x11 ≡ s → (t : Bool) → eqb (r .children) 0 ≡ t → (s && t) ≡ true → (r .kind < 0x11) × (r .children ≡ 0)
+    go true g true h q = (ltb-true _ _ g, eqb-true _ _ h)
+    go true g false h q = let z : _≡_ {A = ℕ} 1 0 = ap (λ (b : Bool). cond b 0 1) q in absurd (omega arith)
+    go false g t h q = let z : _≡_ {A = ℕ} 1 0 = ap (λ (b : Bool). cond b 0 1) q in absurd (omega arith)
+
+front-low : (r : Node) → r .kind < 0x11 → r .kind ∷ [] ≡ frontOf (layoutOf (r .kind)) r
+front-low r h =
+    front-rest r (λ e. omega arith) (λ e. omega arith) (λ e. omega arith) (λ e. omega arith) (λ e. omega arith) (λ e. omega arith) (λ e. omega arith) (λ e. omega arith) (λ e. omega arith)
+    (λ e. omega arith) (λ e. omega arith) (λ e. omega arith) (λ e. omega arith)
+
+spell-one : (v : ℕ) → spell (v ∷ []) [] ≡ encode v
+unfolding spell
+spell-one v = append-nil (encode v)
 
 -- ---- front_to
 
@@ -182,6 +210,17 @@ module _ (d : ℕ) (t : List ℕ) (n at : ℕ) where
         ∙ parts-one (emit (d - 1) t) (frontOf (layoutOf (node .kind)) node) (node .children) (n + 1)
         ∙ ap (λ (vs : List ℕ). followed (spelled vs (n + 1)) (times (emit (d - 1) t) (node .children))) (sym g))
         x
+
+    pub emit-leaf : leaf node ≡ true → Emits (wrote (encode (node .kind)) (n + 1)) at r o o₁ → Emits (emit d t n) at r o o₁
+    unfolding times followed
+    emit-leaf k x =
+        let i : node .kind < 0x11 = leaf-both node k .0 in
+        let j : node .children ≡ 0 = leaf-both node k .1 in
+        let u : followed (spelled (node .kind ∷ []) (n + 1)) (times (emit (d - 1) t) (node .children)) ≡ wrote (encode (node .kind)) (n + 1) =
+        ap (λ (c : ℕ). followed (spelled (node .kind ∷ []) (n + 1)) (times (emit (d - 1) t) c)) j
+        ∙ ap (λ (l : List ℕ). wrote (l ++ []) (n + 1)) (spell-one (node .kind))
+        ∙ ap (λ (l : List ℕ). wrote l (n + 1)) (append-nil (encode (node .kind))) in
+        emit-part (Single (node .kind)) (λ e. omega arith) (front-low node i) (emits-is _ _ at r o o₁ u x)
 
 -- array_at: P is a part's emission
 module _ (item : ℕ → Emitted) (node : Node) (n at : ℕ) (w : Emit) (o o₁ : List ℕ) (x : Emits (followed (spelled (node .kind ∷ []) n) (times item 1)) at w o o₁) where

@@ -5,20 +5,20 @@ use native.Mathlib.Omega.{arith}
 use mathlib.Core.Path.{_≡_, refl, sym, ap, _∙_}
 use mathlib.Core.Bool.{Bool, true, false}
 use mathlib.Core.List.{List, _++_}
-use lib.ListN.{length, take, drop, replicate, length-replicate}
+use lib.ListN.{length, take, drop, replicate, length-append, length-replicate}
 use lib.Seq.{sets, sets-eq, take-at, length-take-le}
 use lib.Dec.{leb}
-use borrow.Author.Tests.{le-leb, lt-leb}
+use borrow.Author.Tests.{leb-true, leb-false, le-leb, lt-leb}
 use Rattle.number.specs.declared.token.Counts.{Counts}
 use Rattle.grammar.specs.Limits.{maxBytes}
 use Rattle.grammar.specs.Kinds.{maxKind}
 use Rattle.grammar.specs.Table.{flat}
-use Rattle.grammar.specs.Judge.{Out, fault, done, check, known, judge, reading}
+use Rattle.grammar.specs.Judge.{Out, fault, done, bind, check, known, judge, reading}
 use Rattle.grammar.specs.Emit.{Emitted, torn, wrote, emitted}
 use Rattle.grammar.specs.Writer.{same, isTable, confirmed, writing}
 use Rattle.grammar.specs.declared.Node.{Node}
 use Rattle.grammar.proofs.Sound.{Holds, holds}
-use Rattle.grammar.proofs.Bounds.{Ends, ends-judge, reading-enough}
+use Rattle.grammar.proofs.Bounds.{Ends, ends-judge}
 use Rattle.grammar.proofs.Refusals.{judge-refuses}
 use Rattle.grammar.proofs.Emits.{length-flat}
 use Rattle.reader.specs.Answer as reader
@@ -27,73 +27,111 @@ use Rattle.writer.specs.Written.{answerOf, outputOf}
 use Rattle.writer.specs.Emission.{resultOf, leavesOf, Emits}
 use Rattle.writer.specs.declared.emit.Emit.{Emit}
 use Rattle.writer.specs.declared.emit.Emit.the-variants.{Next, Stop}
+use Rattle.writer.proofs.Lists.{same-lengths}
 use Rattle.writer.proofs.Laws.{clash, Fit, fits, over, fit, found, next-within}
 
--- ---- confirms: a is what the reader answers, o₁ what it leaves of 1,024 records lent
+-- ---- confirms_in: a is what the reader answers, o₁ what it leaves of the records o that are lent
 
-abbrev lent : List ℕ
-lent = replicate 6144 0
+-- a table that no judgement gives, since it has another length
+not-table : (t : List ℕ) (at n : ℕ) (rs : List Node) → n ≡ length rs → (6 * n ≡ length t → ⊥) → false ≡ isTable t (done at n rs)
+unfolding isTable
+not-table t at n rs l h = same-lengths (flat rs) t (λ e. h (ap (λ (k : ℕ). 6 * k) l ∙ sym (length-flat rs) ∙ e))
 
-enough : (kind : ℕ) (counts : Counts) (s : List ℕ) → reading kind counts s (length lent / 6) ≡ judge kind counts s
-enough kind counts s = reading-enough kind counts s (length lent / 6) (omega (arith, length-replicate {A = ℕ} 6144 0))
-
-module _ (kind : ℕ) (counts : Counts) (s : List ℕ) (a : Answer) (e : a ≡ reader.answerOf (reading kind counts s (length lent / 6))) where
-  answered : a ≡ reader.answerOf (judge kind counts s)
-  answered = e ∙ ap reader.answerOf (enough kind counts s)
-
-  pub confirms-not : (t : List ℕ) → (a .code ≡ 0 → ⊥) → false ≡ isTable t (judge kind counts s)
-  unfolding reader.answerOf isTable
-  confirms-not t h = go (judge kind counts s) answered
-    where
-      go : (x : Out) → a ≡ reader.answerOf x → false ≡ isTable t x
-      go (fault c p) q = refl
-      go (done at n rs) q = absurd (h (ap (λ (y : Answer). y .code) q))
-
-  -- what judging again gave where the answer is 0
+module _ (kind : ℕ) (counts : Counts) (s o : List ℕ) where
+  -- a refusal, and no table that o has room for; or the records
   data Read : Type 0 where
-    got : (at : ℕ) (rs : List Node) → judge kind counts s ≡ done at (a .place) rs → a .place ≤ 1024 → a .place ≡ length rs → Read
+    not : (c p : ℕ) → reading kind counts s (length o / 6) ≡ fault c p → 1 ≤ c → ((t : List ℕ) → length t ≤ length o → false ≡ isTable t (judge kind counts s)) → Read
+    got : (at n : ℕ) (rs : List Node) → reading kind counts s (length o / 6) ≡ done at n rs → judge kind counts s ≡ done at n rs → 6 * n ≤ length o → n ≤ 1024 → n ≡ length rs
+        → Read
 
-  read : a .code ≡ 0 → Read
-  unfolding reader.answerOf
-  read h = go (judge kind counts s) refl answered (ends-judge kind counts s)
+  read : Read
+  unfolding reading isTable
+  read = go (judge kind counts s) refl (ends-judge kind counts s)
     where
-      go : (x : Out) → judge kind counts s ≡ x → a ≡ reader.answerOf x → Holds (Ends 0) x → Read
-      go (fault c p) g q z =
+      lend : (at n : ℕ) (rs : List Node) (b : Bool) → leb n (length o / 6) ≡ b → reading kind counts s (length o / 6) ≡ check b 11 n (λ _. done at n rs) → judge kind counts s ≡ done at n rs
+          → n ≤ 1024 → n ≡ length rs → Read
+      lend at n rs true b q g i l = let k : n ≤ length o / 6 = leb-true _ _ b in got at n rs q g (omega arith) i l
+      lend at n rs false b q g i l =
+          let k : length o / 6 < n = leb-false _ _ b in
+          not 11 n q (omega arith) (λ t h. not-table t at n rs l (λ e. omega arith) ∙ sym (ap (isTable t) g))
+
+      go : (x : Out) → judge kind counts s ≡ x → Holds (Ends 0) x → Read
+      go (fault c p) g z =
           let i = judge-refuses kind counts s c p g .0 in
-          let k : c ≡ 0 = sym (ap (λ (y : Answer). y .code) q) ∙ h in
-          absurd (omega (arith, i .0))
-      go (done at n rs) g q (holds z) =
-          let k : a .place ≡ n = ap (λ (y : Answer). y .place) q in
-          got at rs (g ∙ ap (λ (i : ℕ). done at i rs) (sym k)) (omega (arith, z .0)) (omega (arith, z .1))
+          not c p (ap (λ (x : Out). bind x (λ at n rs. check (leb n (length o / 6)) 11 n (λ _. done at n rs))) g) (i .0) (λ t h. sym (ap (isTable t) g))
+      go (done at n rs) g (holds z) =
+          lend at n rs (leb n (length o / 6)) refl (ap (λ (x : Out). bind x (λ at n rs. check (leb n (length o / 6)) 11 n (λ _. done at n rs))) g) g (omega (arith, z .0)) (omega (arith, z .1))
 
-  pub confirms-few : a .code ≡ 0 → a .place ≤ 1024
-  confirms-few h = go (read h)
-    where
-      go : Read → a .place ≤ 1024
-      go (got at rs g i l) = i
+  module _ (a : Answer) (e : a ≡ reader.answerOf (reading kind counts s (length o / 6))) where
+    answered : (x : Out) → reading kind counts s (length o / 6) ≡ x → a ≡ reader.answerOf x
+    answered x q = e ∙ ap reader.answerOf q
 
-  module _ (o₁ : List ℕ) (j : o₁ ≡ reader.tableOf (reading kind counts s (length lent / 6)) lent) where
-    pub confirms-long : length o₁ ≡ 6144 → a .code ≡ 0 → 6 * (a .place) ≤ length o₁
-    confirms-long l h = let z = confirms-few h in omega arith
-
-    pub confirms-same : (t : List ℕ) (r : Bool) → a .code ≡ 0 → r ≡ same (take (6 * (a .place)) o₁) t → r ≡ isTable t (judge kind counts s)
-    unfolding reader.tableOf isTable
-    confirms-same t r h q = go (read h)
+    pub confirms-not : (t : List ℕ) → length t ≤ length o → (a .code ≡ 0 → ⊥) → false ≡ isTable t (judge kind counts s)
+    unfolding reader.answerOf
+    confirms-not t l h = go read
       where
-        go : Read → r ≡ isTable t (judge kind counts s)
-        go (got at rs g i l) =
-            let n : length (flat rs) ≡ 6 * (a .place) = length-flat rs ∙ ap (λ (k : ℕ). 6 * k) (sym l) in
-            let u : o₁ ≡ flat rs ++ drop (6 * (a .place)) lent = j ∙ ap (λ (x : Out). reader.tableOf x lent) (enough kind counts s ∙ g) in
-            let v : take (6 * (a .place)) o₁ ≡ flat rs = ap (take (6 * (a .place))) u ∙ take-at (flat rs) _ (6 * (a .place)) n in
-            q ∙ ap (λ (x : List ℕ). same x t) v ∙ sym (ap (isTable t) g)
+        go : Read → false ≡ isTable t (judge kind counts s)
+        go (not c p q i f) = f t l
+        go (got at n rs q g i m k) = absurd (h (ap (λ (y : Answer). y .code) (answered (done at n rs) q)))
+
+    -- where the answer is 0
+    module _ (h : a .code ≡ 0) where
+      data Took : Type 0 where
+        took : (at : ℕ) (rs : List Node) → reading kind counts s (length o / 6) ≡ done at (a .place) rs → judge kind counts s ≡ done at (a .place) rs → 6 * (a .place) ≤ length o
+            → a .place ≤ 1024 → length (flat rs) ≡ 6 * (a .place) → Took
+
+      took-all : Took
+      unfolding reader.answerOf
+      took-all = go read
+        where
+          go : Read → Took
+          go (not c p q i f) = let k : 0 ≡ c = sym h ∙ ap (λ (y : Answer). y .code) (answered (fault c p) q) in absurd (omega arith)
+          go (got at n rs q g i m l) =
+              let k : n ≡ a .place = sym (ap (λ (y : Answer). y .place) (answered (done at n rs) q)) in
+              let w : done at n rs ≡ done at (a .place) rs = ap (λ (j : ℕ). done at j rs) k in
+              took at rs (q ∙ w) (g ∙ w) (omega arith) (omega arith) (length-flat rs ∙ ap (λ (j : ℕ). 6 * j) (sym l ∙ k))
+
+      pub confirms-few : a .place ≤ 1024
+      confirms-few = go took-all
+        where
+          go : Took → a .place ≤ 1024
+          go (took at rs q g i m l) = m
+
+      module _ (o₁ : List ℕ) (j : o₁ ≡ reader.tableOf (reading kind counts s (length o / 6)) o) where
+        left : (at : ℕ) (rs : List Node) → reading kind counts s (length o / 6) ≡ done at (a .place) rs → o₁ ≡ flat rs ++ drop (6 * (a .place)) o
+        unfolding reader.tableOf
+        left at rs q = j ∙ ap (λ (x : Out). reader.tableOf x o) q
+
+        pub confirms-long : 6 * (a .place) ≤ length o₁
+        confirms-long = go took-all
+          where
+            go : Took → 6 * (a .place) ≤ length o₁
+            go (took at rs q g i m l) = let u = ap length (left at rs q) ∙ length-append (flat rs) (drop (6 * (a .place)) o) in omega (arith, u, l)
+
+        pub confirms-same : (t : List ℕ) (r : Bool) → r ≡ same (take (6 * (a .place)) o₁) t → r ≡ isTable t (judge kind counts s)
+        unfolding isTable
+        confirms-same t r q = go took-all
+          where
+            go : Took → r ≡ isTable t (judge kind counts s)
+            go (took at rs w g i m l) =
+                let v : take (6 * (a .place)) o₁ ≡ flat rs = ap (take (6 * (a .place))) (left at rs w) ∙ take-at (flat rs) _ (6 * (a .place)) l in
+                q ∙ ap (λ (x : List ℕ). same x t) v ∙ sym (ap (isTable t) g)
+
+-- ---- confirms
+
+-- no blob has more than 1,024 nodes
+pub confirms-over : (kind : ℕ) (counts : Counts) (s t : List ℕ) → 6144 < length t → false ≡ isTable t (judge kind counts s)
+unfolding isTable
+confirms-over kind counts s t h = go (judge kind counts s) (ends-judge kind counts s)
+  where
+    go : (x : Out) → Holds (Ends 0) x → false ≡ isTable t x
+    go (fault c p) z = refl
+    go (done at n rs) (holds z) = not-table t at n rs (omega (arith, z .1)) (λ e. omega (arith, z .0))
 
 pub part-length : (n : ℕ) (o : List ℕ) → n ≤ length o → n ≡ length (take n o)
 part-length n o h = sym (length-take-le n o h)
 
--- ---- write_known: y is what emitting gave, o₁ what it left of 4,096 bytes
-
-abbrev blank : List ℕ
-blank = replicate 4096 0
+-- ---- copy_confirmed: s is the blob, o the output
 
 -- more bytes than a blob has are refused
 judge-long : (kind : ℕ) (counts : Counts) (s t : List ℕ) → maxBytes < length s → isTable t (judge kind counts s) ≡ false
@@ -110,64 +148,67 @@ abbrev Gives : Answer → (after before : List ℕ) → (kind : ℕ) → Counts 
 Gives r after before kind counts t q =
     (r ≡ answerOf (confirmed kind counts t (length before) q)) × (after ≡ outputOf (confirmed kind counts t (length before) q) before)
 
-module _ (t : List ℕ) (y : Emit) (o₁ : List ℕ) (x : Emits (emitted t) 0 y blank o₁) (at n : ℕ) (g : y ≡ Next at n) where
+module _ (kind : ℕ) (counts : Counts) (t s o : List ℕ) where
+  pub copy-not : false ≡ isTable t (judge kind counts s) → Gives (reader.answer 14 0) o o kind counts t (wrote s 0)
+  unfolding answerOf outputOf
+  copy-not e = rw (← e) (refl, refl)
+
+  module _ (e : true ≡ isTable t (judge kind counts s)) where
+    pub copy-short : length o < length s → Gives (reader.answer 15 (length s)) o o kind counts t (wrote s 0)
+    unfolding answerOf outputOf
+    copy-short h = rw (← e, lt-leb (length s) (length o) h) (refl, refl)
+
+    pub copy-done : (o₁ : List ℕ) → length s ≤ length o → o₁ ≡ s ++ drop (length s) o → Gives (reader.answer 0 (length s)) o₁ o kind counts t (wrote s 0)
+    unfolding answerOf outputOf
+    copy-done o₁ h j = rw (← e, le-leb (length s) (length o) h) (refl, j)
+
+-- ---- write_known: y is what emitting gave, o₁ what it left of the bytes b
+
+module _ (t : List ℕ) (y : Emit) (b o₁ : List ℕ) (x : Emits (emitted t) 0 y b o₁) (at n : ℕ) (g : y ≡ Next at n) where
   pub blob-within : at ≤ length o₁
-  blob-within = next-within (emitted t) 0 at n blank o₁ (found _ 0 y _ blank o₁ g x)
+  blob-within = next-within (emitted t) 0 at n b o₁ (found _ 0 y _ b o₁ g x)
 
   pub blob-length : length (take at o₁) ≡ at
   blob-length = length-take-le at o₁ blob-within
 
-  pub blob-fits : (room : ℕ) → at ≤ room → length (take at o₁) ≤ room
-  blob-fits room h = rw blob-length h
-
-module _ (kind : ℕ) (counts : Counts) (t : List ℕ) (y : Emit) (o₁ : List ℕ) (x : Emits (emitted t) 0 y blank o₁) where
-  pub write-stop : (o : List ℕ) → y ≡ Stop → Gives (reader.answer 14 0) o o kind counts t (emitted t)
-  unfolding answerOf outputOf resultOf
-  write-stop o g = go (emitted t) x
+  blob-emitted : emitted t ≡ wrote (take at o₁) n
+  unfolding resultOf leavesOf
+  blob-emitted = go (emitted t) x
     where
-      by-fit : (bs : List ℕ) (n : ℕ) → Fit bs 0 (length blank) y (Next (0 + length bs) n) → Gives (reader.answer 14 0) o o kind counts t (wrote bs n)
-      by-fit bs n (fits h e) = clash (sym g ∙ e)
-      by-fit bs n (over h e) =
-          let k : maxBytes < length bs = omega (arith, length-replicate {A = ℕ} 4096 0) in
-          rw (judge-long kind counts bs t k) (refl, refl)
+      by-fit : (bs : List ℕ) (m : ℕ) → (0 + length bs ≤ length b → o₁ ≡ sets b 0 bs) → Fit bs 0 (length b) y (Next (0 + length bs) m) → wrote bs m ≡ wrote (take at o₁) n
+      by-fit bs m f (fits h e) =
+          let w : Next at n ≡ Next (0 + length bs) m = sym g ∙ e in
+          let i : at ≡ 0 + length bs = cc in
+          let j : n ≡ m = cc in
+          let l : length bs ≡ at = omega arith in
+          let v : o₁ ≡ bs ++ drop (0 + length bs) b = f h ∙ sets-eq bs b 0 h in
+          let u : take at o₁ ≡ bs = ap (take at) v ∙ take-at bs _ at l in
+          sym (ap (λ (z : List ℕ). wrote z n) u ∙ ap (wrote bs) j)
+      by-fit bs m f (over h e) = clash (sym e ∙ g)
 
-      go : (q : Emitted) → Emits q 0 y blank o₁ → Gives (reader.answer 14 0) o o kind counts t q
-      go torn z = (refl, refl)
-      go (wrote bs n) z = by-fit bs n (fit bs n 0 (length blank) y (z .result))
+      go : (q : Emitted) → Emits q 0 y b o₁ → q ≡ wrote (take at o₁) n
+      go torn z = clash (sym (z .result) ∙ g)
+      go (wrote bs m) z = by-fit bs m (z .left) (fit bs m 0 (length b) y (z .result))
 
-  module _ (at n : ℕ) (g : y ≡ Next at n) where
-    blob-emitted : emitted t ≡ wrote (take at o₁) n
-    unfolding resultOf leavesOf
-    blob-emitted = go (emitted t) x
-      where
-        by-fit : (bs : List ℕ) (m : ℕ) → (0 + length bs ≤ length blank → o₁ ≡ sets blank 0 bs) → Fit bs 0 (length blank) y (Next (0 + length bs) m) → wrote bs m ≡ wrote (take at o₁) n
-        by-fit bs m f (fits h e) =
-            let w : Next at n ≡ Next (0 + length bs) m = sym g ∙ e in
-            let i : at ≡ 0 + length bs = cc in
-            let j : n ≡ m = cc in
-            let l : length bs ≡ at = omega arith in
-            let v : o₁ ≡ bs ++ drop (0 + length bs) blank = f h ∙ sets-eq bs blank 0 h in
-            let u : take at o₁ ≡ bs = ap (take at) v ∙ take-at bs _ at l in
-            sym (ap (λ (b : List ℕ). wrote b n) u ∙ ap (wrote bs) j)
-        by-fit bs m f (over h e) = clash (sym e ∙ g)
+  pub write-copied : (kind : ℕ) (counts : Counts) (o : List ℕ) (r : Answer) (o₂ : List ℕ) → Gives r o₂ o kind counts t (wrote (take at o₁) 0) → Gives r o₂ o kind counts t (emitted t)
+  write-copied kind counts o r o₂ h = rw blob-emitted h
 
-        go : (q : Emitted) → Emits q 0 y blank o₁ → q ≡ wrote (take at o₁) n
-        go torn z = clash (sym (z .result) ∙ g)
-        go (wrote bs m) z = by-fit bs m (z .left) (fit bs m 0 (length blank) y (z .result))
+abbrev blank : List ℕ
+blank = replicate 4096 0
 
-    pub write-not : (o : List ℕ) → false ≡ isTable t (judge kind counts (take at o₁)) → Gives (reader.answer 14 0) o o kind counts t (emitted t)
-    unfolding answerOf outputOf
-    write-not o e = rw (blob-emitted, ← e) (refl, refl)
+pub write-stop : (kind : ℕ) (counts : Counts) (t : List ℕ) (y : Emit) (o₁ : List ℕ) → Emits (emitted t) 0 y blank o₁ → (o : List ℕ) → y ≡ Stop → Gives (reader.answer 14 0) o o kind counts t (emitted t)
+unfolding answerOf outputOf resultOf
+write-stop kind counts t y o₁ x o g = go (emitted t) x
+  where
+    by-fit : (bs : List ℕ) (n : ℕ) → Fit bs 0 (length blank) y (Next (0 + length bs) n) → Gives (reader.answer 14 0) o o kind counts t (wrote bs n)
+    by-fit bs n (fits h e) = clash (sym g ∙ e)
+    by-fit bs n (over h e) =
+        let k : maxBytes < length bs = omega (arith, length-replicate {A = ℕ} 4096 0) in
+        rw (judge-long kind counts bs t k) (refl, refl)
 
-    module _ (o : List ℕ) (e : true ≡ isTable t (judge kind counts (take at o₁))) where
-      pub write-short : length o < at → Gives (reader.answer 15 at) o o kind counts t (emitted t)
-      unfolding answerOf outputOf
-      write-short h = rw (blob-emitted, ← e, blob-length t y o₁ x at n g, lt-leb at (length o) h) (refl, refl)
-
-      pub write-done : (o₂ : List ℕ) → at ≤ length o → o₂ ≡ take at o₁ ++ drop (length (take at o₁)) o → Gives (reader.answer 0 at) o₂ o kind counts t (emitted t)
-      unfolding answerOf outputOf
-      write-done o₂ h j =
-          rw (blob-emitted, ← e, le-leb _ _ (blob-fits t y o₁ x at n g (length o) h)) (ap (reader.answer 0) (sym (blob-length t y o₁ x at n g)), j)
+    go : (q : Emitted) → Emits q 0 y blank o₁ → Gives (reader.answer 14 0) o o kind counts t q
+    go torn z = (refl, refl)
+    go (wrote bs n) z = by-fit bs n (fit bs n 0 (length blank) y (z .result))
 
 -- ---- write
 

@@ -2,11 +2,11 @@
 -- grammar's `writing`.
 use Prim.Native.Nat.{ℕ, _+_, _-_, _≤_}
 use mathlib.Core.Path.{_≡_}
-use mathlib.Core.Bool.{cond}
+use mathlib.Core.Bool.{Bool, cond, _&&_}
 use mathlib.Core.List.{List, [], _∷_, _++_}
 use lib.ListN.{length}
 use lib.Seq.{sets}
-use lib.Dec.{leb, eqb}
+use lib.Dec.{ltb, leb, eqb}
 use Rattle.grammar.specs.Emit.{Layout, plain, valued, array, instance, callable, field, locals, bound, Emitted, torn, wrote, andThen, spell}
 use Rattle.grammar.specs.declared.Node.{Node}
 use Rattle.writer.specs.declared.emit.Emit.{Emit}
@@ -30,6 +30,10 @@ frontOf callable r = r .b ∷ cond (eqb (r .a) 0) [] (r .a ∷ []) ++ (r .childr
 frontOf field r = 0x06 ∷ []
 frontOf locals r = 0x07 ∷ r .children ∷ []
 frontOf bound r = r .a ∷ []
+
+-- a record that is its code alone, by the codes below VALUETYPE's
+unfoldable pub leaf : Node → Bool
+leaf r = ltb (r .kind) 0x11 && eqb (r .children) 0
 
 -- numbers alone, before record n
 abbrev pub spelled : List ℕ → ℕ → Emitted

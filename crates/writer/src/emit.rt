@@ -5,7 +5,7 @@ ghost use lib.ListN.{length};
 ghost use Rattle.number.specs.Number.{encode};
 ghost use Rattle.grammar.specs.Table.{recordAt};
 ghost use Rattle.grammar.specs.Emit.{array, callable, layoutOf, partsOf, wrote, times, parts, emit};
-ghost use Rattle.writer.specs.Emission.{numbersOf, frontOf, spelled, followed, Emits};
+ghost use Rattle.writer.specs.Emission.{numbersOf, frontOf, leaf, spelled, followed, Emits};
 use grammar::Node;
 
 const ARRAY: u32 = 0x14;
@@ -84,6 +84,16 @@ fn front_of(node: Node) -> Front
     }
 }
 
+// A code alone, and no code that a number comes after: short, since most records are so.
+fn is_leaf(node: Node) -> bool
+    ensures { λ r. ⌜ r ≡ leaf node ⌝ }
+{
+    if node.kind < 0x11 {
+        return node.children == 0;
+    }
+    false
+}
+
 // One number, where it fits.
 fn number_to(out: &mut [u8], v: u32, at: usize, n: usize) -> Emit
     ensures { λ r. ⌜ Emits (wrote (encode v) n) at r (now (out .entry)) (now (out .exit)) ⌝ }
@@ -140,6 +150,9 @@ pub fn emit_at(out: &mut [u8], d: usize, table: &[u32], at: usize, n: usize) -> 
         return Emit::Stop;
     }
     let node = record_at(table, n);
+    if is_leaf(node) {
+        return number_to(out, node.kind, at, n + 1);
+    }
     if node.kind == ARRAY {
         return array_at(out, d - 1, table, node, at, n + 1);
     }

@@ -5,7 +5,7 @@ ghost use mathlib.Core.List.{_++_};
 ghost use Prim.Native.Nat.{_≤_};
 ghost use lib.ListN.{length, drop};
 ghost use Rattle.grammar.specs.Judge.{judge};
-ghost use Rattle.grammar.specs.Emit.{emitted};
+ghost use Rattle.grammar.specs.Emit.{wrote, emitted};
 ghost use Rattle.grammar.specs.Writer.{same, isTable, confirmed, writing};
 ghost use Rattle.writer.specs.Written.{answerOf, outputOf};
 use crate::emit::Emit;
@@ -16,28 +16,30 @@ use reader::Answer;
 
 mod emit;
 
+// Compares to the end, in any case: a loop without an exit is compiled to wide instructions.
 fn same_numbers(a: &[u32], b: &[u32]) -> bool
     ensures { λ r. ⌜ r ≡ same (now (a .entry)) (now (b .entry)) ⌝ }
 {
     if a.len() != b.len() {
         return false;
     }
+    let mut equal = true;
     let mut i = 0;
     while i < a.len() {
         if a[i] != b[i] {
-            return false;
+            equal = false;
         }
         i += 1;
     }
-    true
+    equal
 }
 
-// Whether the reader takes the whole blob and gives this table.
-fn confirms(kind: u32, counts: Counts, blob: &[u8], table: &[u32]) -> bool
+// Whether the reader takes the whole blob and gives this table, read into records that are lent.
+fn confirms_in(seen: &mut [u32], kind: u32, counts: Counts, blob: &[u8], table: &[u32]) -> bool
+    requires { ⌜ length (now table) ≤ length (now seen) ⌝ }
     ensures { λ r. ⌜ r ≡ isTable (now (table .entry)) (judge kind counts (now (blob .entry))) ⌝ }
 {
-    let mut seen = [0u32; 6144];
-    let answer = reader::read(kind, counts, blob, &mut seen);
+    let answer = reader::read(kind, counts, blob, seen);
     let code = answer.code;
     let nodes = answer.place;
     if code != 0 {
@@ -45,6 +47,25 @@ fn confirms(kind: u32, counts: Counts, blob: &[u8], table: &[u32]) -> bool
     }
     let end = 6 * nodes;
     same_numbers(&seen[..end], table)
+}
+
+// Whether the reader takes the whole blob and gives this table. Its own records are as few as the table allows, since they are cleared.
+fn confirms(kind: u32, counts: Counts, blob: &[u8], table: &[u32]) -> bool
+    ensures { λ r. ⌜ r ≡ isTable (now (table .entry)) (judge kind counts (now (blob .entry))) ⌝ }
+{
+    if table.len() <= 96 {
+        let mut few = [0u32; 96];
+        return confirms_in(&mut few, kind, counts, blob, table);
+    }
+    if table.len() <= 768 {
+        let mut some = [0u32; 768];
+        return confirms_in(&mut some, kind, counts, blob, table);
+    }
+    if table.len() <= 6144 {
+        let mut seen = [0u32; 6144];
+        return confirms_in(&mut seen, kind, counts, blob, table);
+    }
+    false
 }
 
 // Copies `src` to the front of `out`.
@@ -72,25 +93,42 @@ pub fn write(kind: u32, counts: Counts, table: &[u32], out: &mut [u8]) -> Answer
     Answer { code: 13, place: 0 }
 }
 
-// The writer for a known kind and allowed counts.
+// The writer for a known kind and allowed counts. Few records are first emitted into few bytes, since the bytes are cleared; what does not fit there
+// is emitted again.
 fn write_known(kind: u32, counts: Counts, table: &[u32], out: &mut [u8]) -> Answer
     ensures { λ r. ⌜ (r ≡ answerOf (confirmed kind counts (now (table .entry)) (length (now (out .entry))) (emitted (now (table .entry))))) × (now (out .exit) ≡ outputOf (confirmed kind counts (now (table .entry)) (length (now (out .entry))) (emitted (now (table .entry)))) (now (out .entry))) ⌝ }
 {
+    if table.len() <= 96 {
+        let mut few = [0u8; 128];
+        match emit::emit_at(&mut few, MAX_DEPTH, table, 0, 0) {
+            Emit::Next { at, node } => return copy_confirmed(kind, counts, &few[..at], table, out),
+            Emit::Stop => {}
+        }
+    }
     let mut blob = [0u8; 4096];
     match emit::emit_at(&mut blob, MAX_DEPTH, table, 0, 0) {
-        Emit::Next { at, node } => {
-            if confirms(kind, counts, &blob[..at], table) {
-                if out.len() < at {
-                    return Answer {
-                        code: 15,
-                        place: at,
-                    };
-                }
-                copy_to(out, &blob[..at]);
-                return Answer { code: 0, place: at };
-            }
-            Answer { code: 14, place: 0 }
-        }
+        Emit::Next { at, node } => copy_confirmed(kind, counts, &blob[..at], table, out),
         Emit::Stop => Answer { code: 14, place: 0 },
     }
+}
+
+// Copies an emitted blob to the output where the reader gives the table for it.
+fn copy_confirmed(kind: u32, counts: Counts, blob: &[u8], table: &[u32], out: &mut [u8]) -> Answer
+    ensures { λ r. ⌜ (r ≡ answerOf (confirmed kind counts (now (table .entry)) (length (now (out .entry))) (wrote (now (blob .entry)) 0))) × (now (out .exit) ≡ outputOf (confirmed kind counts (now (table .entry)) (length (now (out .entry))) (wrote (now (blob .entry)) 0)) (now (out .entry))) ⌝ }
+{
+    let len = blob.len();
+    if confirms(kind, counts, blob, table) {
+        if out.len() < len {
+            return Answer {
+                code: 15,
+                place: len,
+            };
+        }
+        copy_to(out, blob);
+        return Answer {
+            code: 0,
+            place: len,
+        };
+    }
+    Answer { code: 14, place: 0 }
 }

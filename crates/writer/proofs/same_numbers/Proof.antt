@@ -2,6 +2,8 @@
 use borrow.Author.Needs.{needs}
 use Prim.Native.Nat.{_≤_, _-_}
 use mathlib.Core.Path.{_≡_, refl, _∙_}
+use mathlib.Core.Bool.{_&&_}
+use mathlib.Core.Logic.{⊎-elim}
 use lib.ListN.{length, drop}
 use Rattle.grammar.specs.Writer.{same}
 use Rattle.writer.proofs.Lists.{same-lengths, same-differ, same-step, same-end}
@@ -9,10 +11,10 @@ use Rattle.writer.proofs.same_numbers.Statement.{statement}
 use Rattle.writer.proofs.same_numbers.Tie as tie
 
 abbrev Inv-loop : tie.InvT-loop
-Inv-loop a b i₀ i = (length a ≡ length b) × (i ≤ length a) × (same (drop i a) (drop i b) ≡ same a b)
+Inv-loop a b equal₀ i₀ equal i = (length a ≡ length b) × (i ≤ length a) × ((equal && same (drop i a) (drop i b)) ≡ same a b)
 
 abbrev μ-loop : tie.MeasureT-loop
-μ-loop a b i₀ i = length a - i
+μ-loop a b equal₀ i₀ equal i = length a - i
 
 pub same-numbers-spec : {M : Type 1} → statement M
 same-numbers-spec =
@@ -26,8 +28,7 @@ same-numbers-spec =
     (λ c. search needs)
     (λ c. search needs)
     (λ c. search needs)
-    (λ c. let l = c .before .before .before .before .loop in same-differ _ _ _ (c .before .before .before .loop-test .taken) (l .inv .0) (c .if2 .taken) ∙ l .inv .2)
     (λ c. search needs)
     (λ c. search needs)
-    (λ c. let l = c .before .before .before .before .loop in (l .inv .0, search needs, same-step _ _ _ (c .before .before .before .loop-test .taken) (l .inv .0) (c .if2 .left) ∙ l .inv .2))
-    (λ c. let l = c .before .loop in same-end _ _ _ (l .inv .0) (c .loop-test .left) ∙ l .inv .2))
+    (λ c. let x = c .before .before .before in let l = x .before .loop in (l .inv .0, search needs, ⊎-elim (λ w. same-differ _ _ _ (x .loop-test .taken) (l .inv .0) (l .equal) _ (w .0 .taken) (w .1)) (λ w. same-step _ _ _ (x .loop-test .taken) (l .inv .0) _ _ (w .0 .left) (w .1)) (c .if2 .came) ∙ l .inv .2))
+    (λ c. let l = c .before .loop in same-end _ _ _ _ (l .inv .0) (c .loop-test .left) ∙ l .inv .2))

@@ -1,7 +1,7 @@
 -- `writer::write_known` meets its contract. Assumes nothing.
 use borrow.Author.Needs.{needs}
-use mathlib.Core.Path.{sym, _∙_}
-use Rattle.writer.proofs.Verdicts.{write-stop, blob-within, blob-length, blob-fits, write-not, write-short, write-done}
+use mathlib.Core.Path.{sym}
+use Rattle.writer.proofs.Verdicts.{blob-within, blob-length, write-copied, write-stop}
 use Rattle.writer.proofs.write_known.Statement.{statement}
 use Rattle.writer.proofs.write_known.Tie as tie
 
@@ -12,15 +12,19 @@ write-known-spec =
     (λ c. search needs)
     (λ c κs. search needs)
     (λ c. search needs)
-    (λ c. blob-within _ _ _ (c .before .before .before .before .emit-at .ensures) _ _ (c .before .at .given .1))
-    (λ c. sym (blob-length _ _ _ (c .before .before .before .before .before .emit-at .ensures) _ _ (c .before .before .at .given .1)))
+    (λ c. blob-within _ _ _ _ (c .before .before .before .before .emit-at .ensures) _ _ (c .before .at .given .1))
+    (λ c. sym (blob-length _ _ _ _ (c .before .before .before .before .before .emit-at .ensures) _ _ (c .before .before .at .given .1)))
     (λ c κs. search needs)
-    (λ c. write-short _ _ _ _ _ (c .before .before .before .before .before .before .before .before .emit-at .ensures) _ _ (c .before .before .before .before .before .at .given .1) _ (sym (c .before .if1 .taken) ∙ c .before .before .confirms .ensures) (c .if2 .taken))
-    (λ c. blob-within _ _ _ (c .before .before .before .before .before .before .before .before .before .emit-at .ensures) _ _ (c .before .before .before .before .before .before .at .given .1))
-    (λ c. sym (blob-length _ _ _ (c .before .before .before .before .before .before .before .before .before .before .emit-at .ensures) _ _ (c .before .before .before .before .before .before .before .at .given .1)))
-    (λ c κs. blob-fits _ _ _ (c .before .before .before .before .before .before .before .before .before .before .emit-at .ensures) _ _ (c .before .before .before .before .before .before .before .at .given .1) _ (c .before .before .if2 .left))
     (λ c. search needs)
-    (λ c. write-done _ _ _ _ _ (c .before .before .before .before .before .before .before .before .before .before .before .before .before .emit-at .ensures) _ _ (c .before .before .before .before .before .before .before .before .before .before .at .given .1) _ (sym (c .before .before .before .before .before .before .if1 .taken) ∙ c .before .before .before .before .before .before .before .confirms .ensures) _ (c .before .before .before .before .before .if2 .left) (c .before .before .copy-to .ensures))
+    (λ c. write-copied _ _ _ _ (c .before .before .before .before .before .before .before .before .before .emit-at .ensures) _ _ (c .before .before .before .before .before .before .at .given .1) _ _ (c .before .before .before .before .before .before .before .before .before .before .before .before .before .before .args .out .now) _ _ (c .before .before .copy-confirmed .ensures))
     (λ c. search needs)
-    (λ c. write-not _ _ _ _ _ (c .before .before .before .before .before .before .before .emit-at .ensures) _ _ (c .before .before .before .before .at .given .1) _ (sym (c .if1 .left) ∙ c .before .confirms .ensures))
-    (λ c. write-stop _ _ _ _ _ (c .before .before .before .emit-at .ensures) _ (c .enum-told .given .1)))
+    (λ c. search needs)
+    (λ c κs. search needs)
+    (λ c. search needs)
+    (λ c. blob-within _ _ _ _ (c .before .before .before .before .emit-at2 .ensures) _ _ (c .before .at2 .given .1))
+    (λ c. sym (blob-length _ _ _ _ (c .before .before .before .before .before .emit-at2 .ensures) _ _ (c .before .before .at2 .given .1)))
+    (λ c κs. search needs)
+    (λ c. search needs)
+    (λ c. search needs)
+    (λ c. write-copied _ _ _ _ (c .before .before .before .before .before .before .before .before .before .emit-at2 .ensures) _ _ (c .before .before .before .before .before .before .at2 .given .1) _ _ (c .before .before .before .before .before .before .before .before .before .before .before .before .before .before .args .out .now) _ _ (c .before .before .copy-confirmed2 .ensures))
+    (λ c. write-stop _ _ _ _ _ (c .before .before .before .emit-at2 .ensures) _ (c .enum-told2 .given .1)))

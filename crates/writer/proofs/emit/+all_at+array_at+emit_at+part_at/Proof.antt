@@ -1,7 +1,7 @@
 -- The cycle of calls that emits: a subtree, an array, a part, and some subtrees one after the other. The depth left falls.
 -- Assumes nothing.
 use Prim.Native.Nat.{ℕ, _+_, _*_, _≤_, _<_}
-use mathlib.Core.Path.{_≡_, refl, _∙_}
+use mathlib.Core.Path.{_≡_, refl, sym, _∙_}
 use mathlib.Core.List.{List}
 use native.Mathlib.Omega.{arith}
 use lib.ListN.{length}
@@ -10,7 +10,7 @@ use Rattle.grammar.specs.Emit.{times, emit}
 use Rattle.writer.specs.Emission.{Emits}
 use Rattle.writer.specs.declared.emit.Emit.{Emit}
 use Rattle.writer.proofs.Laws.{found, emits-stop, emits-next, next-within, loop-stop, loop-more, loop-end}
-use Rattle.writer.proofs.Steps.{emit-deep, emit-past, emit-array, emit-part, array-stop, sizes-stop, array-next}
+use Rattle.writer.proofs.Steps.{emit-deep, emit-past, emit-leaf, emit-array, emit-part, array-stop, sizes-stop, array-next}
 use borrow.Fn.Kinds.{In}
 use borrow.Fn.PlainCycle.{Measures, is, falls, and}
 use Rattle.writer.proofs.emit.all_at.Reads as all-at
@@ -27,7 +27,9 @@ use Rattle.writer.proofs.emit.part_at.Kinds as part-at-kinds
 use Rattle.writer.proofs.emit.+all_at+array_at+emit_at+part_at.Lts-part_at as part-at-lts
 use Rattle.writer.proofs.emit.front_of.Reads as front-of-reads
 use Rattle.writer.proofs.emit.front_to.Reads as front-to-reads
+use Rattle.writer.proofs.emit.is_leaf.Reads as is-leaf-reads
 use Rattle.writer.proofs.emit.less.Reads as less-reads
+use Rattle.writer.proofs.emit.number_to.Reads as number-to-reads
 use Rattle.writer.proofs.emit.record_at.Reads as record-at-reads
 use Rattle.writer.proofs.emit.+all_at+array_at+emit_at+part_at.{statement}
 use Rattle.writer.proofs.emit.+all_at+array_at+emit_at+part_at.Tie.{close}
@@ -119,6 +121,10 @@ pub +all-at+array-at+emit-at+part-at-spec : {M : Type 1} → statement M
     (λ t. emit-at-lts.spec (
       record-at-reads.Asked,
       record-at-reads.Learnt,
+      is-leaf-reads.Asked,
+      is-leaf-reads.Learnt,
+      number-to-reads.Asked,
+      number-to-reads.Learnt,
       array-at-below t,
       array-at.Post,
       front-of-reads.Asked,
@@ -131,17 +137,22 @@ pub +all-at+array-at+emit-at+part-at-spec : {M : Type 1} → statement M
     (λ c. emit-deep _ _ _ _ _ (c .if1 .taken))
     (λ c. emit-past _ _ _ _ _ (c .before .if1 .left) (c .if2 .taken))
     (λ c κs. search needs)
+    (λ c κs. search needs)
+    (λ c. search needs)
+    (λ c κs. search needs)
+    (λ c. search needs)
+    (λ c. emit-leaf _ _ _ _ (c .before .before .before .before .before .before .before .before .if1 .left) (c .before .before .before .before .before .before .before .if2 .left) _ (c .before .before .before .before .before .before .record-at .ensures) _ _ _ (sym (c .before .before .before .before .before .is-leaf .ensures) ∙ c .before .before .before .before .if3 .taken) (c .before .before .number-to .ensures))
     (λ c. search needs)
     (λ c. search needs)
     (λ c κs. search needs)
     (λ c. search needs)
-    (λ c. emit-array _ _ _ _ (c .before .before .before .before .before .before .before .before .if1 .left) (c .before .before .before .before .before .before .before .if2 .left) _ (c .before .before .before .before .before .before .record-at .ensures) _ _ _ (c .before .before .before .before .if3 .taken) (c .before .before .array-at .ensures))
+    (λ c. emit-array _ _ _ _ (c .before .before .before .before .before .before .before .before .before .before .if1 .left) (c .before .before .before .before .before .before .before .before .before .if2 .left) _ (c .before .before .before .before .before .before .before .before .record-at .ensures) _ _ _ (c .before .before .before .before .if4 .taken) (c .before .before .array-at .ensures))
     (λ c κs. search needs)
     (λ c. search needs)
     (λ c. search needs)
     (λ c κs. search needs)
     (λ c. search needs)
-    (λ c. emit-part _ _ _ _ (c .before .before .before .before .before .before .before .before .before .if1 .left) (c .before .before .before .before .before .before .before .before .if2 .left) _ (c .before .before .before .before .before .before .before .record-at .ensures) _ _ _ (c .before .before .before .before .front-of .result) (c .before .before .before .before .before .if3 .left) (c .before .before .before .before .front-of .ensures) (c .before .before .part-at .ensures)))
+    (λ c. emit-part _ _ _ _ (c .before .before .before .before .before .before .before .before .before .before .before .if1 .left) (c .before .before .before .before .before .before .before .before .before .before .if2 .left) _ (c .before .before .before .before .before .before .before .before .before .record-at .ensures) _ _ _ (c .before .before .before .before .front-of .result) (c .before .before .before .before .before .if4 .left) (c .before .before .before .before .front-of .ensures) (c .before .before .part-at .ensures)))
     λ t. part-at-lts.spec
     (front-to-reads.Asked, front-to-reads.Learnt, all-at-below t, all-at.Post)
     (part-at-at t)
