@@ -84,7 +84,7 @@ fn front_of(node: Node) -> Front
     }
 }
 
-// A code alone, and no code that a number comes after: short, since most records are so.
+// A record that is its code alone, told before any layout is looked up, for speed.
 fn is_leaf(node: Node) -> bool
     ensures { λ r. ⌜ r ≡ leaf node ⌝ }
 {
