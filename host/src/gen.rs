@@ -9,7 +9,7 @@ mod sheets;
 
 pub use damage::{damage_blob, damage_table};
 pub use edges::edges;
-pub use maker::{chain, grammar_made, locals};
+pub use maker::{chain, grammar_made, locals, put_number};
 pub use relayout::relayout;
 pub use rng::Rng;
 pub use sheets::sheet;

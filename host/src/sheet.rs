@@ -7,7 +7,7 @@ pub use model::{Asked, Model, BAD, CLEAN, EMPTY, LEANS, LOOP};
 use crate::reference::{decode, MOST_ROWS};
 use std::fmt::Write;
 
-const MOST_SHEET: usize = 65_536;
+pub const MOST_SHEET: usize = 65_536;
 const NAMES: [&str; 5] = ["EMPTY", "BAD", "LOOP", "LEANS", "CLEAN"];
 
 /// The printed text of a sheet.

@@ -292,8 +292,9 @@ mod writing {
 /// Jobs that the programs do: their time is a run's less a run's that does no job.
 mod jobs {
     use super::*;
+    use host::gen::put_number;
     use host::reference::decode;
-    use host::sheet::{run_sheet, Model};
+    use host::sheet::{run_sheet, Model, MOST_SHEET};
     use std::io;
     use std::process::{Command, Stdio};
 
@@ -394,10 +395,10 @@ mod jobs {
 
     /// The type of a row that names a row by a modifier.
     fn naming(row: u32) -> Vec<u8> {
-        match row * 4 + 2 {
-            token @ 0..=0x7F => vec![0x20, token as u8, 0x08],
-            token => vec![0x20, 0x80 + (token >> 8) as u8, token as u8, 0x08],
-        }
+        let mut blob = vec![0x20];
+        put_number(&mut blob, row * 4 + 2);
+        blob.push(0x08);
+        blob
     }
 
     /// Each row names the next, and the last the first.
@@ -417,8 +418,8 @@ mod jobs {
             sheet.push(blob.len() as u8);
             sheet.extend(blob);
         }
-        let presses = 65_536 - sheet.len() - 4;
-        sheet.extend((0xC000_0000 + presses as u32).to_be_bytes());
+        let presses = MOST_SHEET - sheet.len() - 4;
+        put_number(&mut sheet, presses as u32);
         sheet.extend((0..presses).map(|i| (i % 127) as u8 + 1));
         sheet
     }

@@ -2,18 +2,15 @@
 // the model's, byte for byte.
 
 use host::gen::{sheet, Rng};
-use host::sheet::run_sheet;
+use host::sheet::{run_sheet, MOST_SHEET};
 use std::io::{self, Write};
 use std::path::{Path, PathBuf};
 use std::process::{Command, ExitCode, Stdio};
 
 const SEED: u64 = 335;
 const RANDOM: usize = 3_000;
-const MOST_SHEET: usize = 65_536;
-const SAMPLE: [u8; 17] = [
-    0x02, 0x00, 0x00, 0x03, 0x04, 0x0F, 0x20, 0x0A, 0x08, 0x01, 0x10, 0x03, 0x20, 0x0E, 0x08, 0x01,
-    0x01,
-];
+/// Document 01's sheet.
+const SAMPLE: &[u8] = include_bytes!("../../../examples/sample.sheet");
 
 fn main() -> ExitCode {
     let words: Vec<String> = std::env::args().skip(1).collect();
@@ -65,7 +62,7 @@ struct Run {
 
 impl Run {
     fn all(&mut self, seed: u64) -> io::Result<()> {
-        self.neighbours(&SAMPLE)?;
+        self.neighbours(SAMPLE)?;
         for sheet in edges() {
             self.case(&sheet)?;
         }

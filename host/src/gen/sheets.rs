@@ -3,6 +3,7 @@
 use super::maker::{grammar_made_as, put_number};
 use super::{damage_blob, Rng};
 use crate::reference::{Counts, MOST_ROWS};
+use crate::sheet::MOST_SHEET;
 
 pub fn sheet(rng: &mut Rng) -> Vec<u8> {
     let size = match rng.below(8) {
@@ -35,7 +36,7 @@ pub fn sheet(rng: &mut Rng) -> Vec<u8> {
     }
     match rng.below(200) {
         0..=30 => damage_blob(rng, &mut bytes),
-        31 => bytes.resize(65_536 + rng.below(2), 0x00),
+        31 => bytes.resize(MOST_SHEET + rng.below(2), 0x00),
         _ => {}
     }
     bytes
