@@ -14,7 +14,7 @@ use Rattle.element.specs.declared.Form.the-variants.{Refused, Wrap, Modi
 use Rattle.element.specs.declared.Place.{Place}
 use Rattle.element.specs.declared.Place.the-variants as Place
 use Rattle.element.specs.Element.{Entry, run, one, within, lookup, bare, mods, void, byRef, typedByRef, entries, formOf}
-use Rattle.element.specs.Decided.{refused, behindOf, restFormOf, typeFormOf, plain}
+use Rattle.element.specs.Decided.{typeFormOf, plain}
 
 pub inside : (first last b : ℕ) → first ≤ b → b ≤ last → within first last b ≡ true
 inside first last b l u = simp (le-leb _ _ l, le-leb _ _ u)
@@ -89,76 +89,70 @@ lookup-passes test (run first last f ∷ es) b r e =
     go true y p q false k = k q
     go false y p q t k = cc
 
--- an entry whose bytes Bare refuses is passed over by a byte that Bare allows
-past : (first last b : ℕ) (f : Form) (es : List Entry) → T (uncut bare first (suc last)) → T (refused (lookup bare first)) → refused (lookup bare b) ≡ false
-    → lookup bare b ≡ lookup es b → lookup bare b ≡ lookup (run first last f ∷ es) b
-past first last b f es u r a q = go (within first last b) refl
-  where
-    go : (t : Bool) → within first last b ≡ t → lookup bare b ≡ cond t f (lookup es b)
-    go true e =
-        let i = within-true first last b e in
-        let s : lookup bare b ≡ lookup bare first = same-run bare (i .0) (omega (arith, i .1)) u in
-        absurd (subst T (ap refused (sym s) ∙ a) r)
-    go false e = q
+-- what holds in each of the places of a type
+pub in-plain : (P : Place → Type 0) → P Place.Type → P Place.Pointee → P Place.Param → P Place.RetType → P Place.Local → P Place.Pinned → P Place.ModifiedSpec
+    → (p : Place) → plain p ≡ true → P p
+in-plain P t q a r l i m Place.Type h = t
+in-plain P t q a r l i m Place.Pointee h = q
+in-plain P t q a r l i m Place.Param h = a
+in-plain P t q a r l i m Place.RetType h = r
+in-plain P t q a r l i m Place.Local h = l
+in-plain P t q a r l i m Place.Pinned h = i
+in-plain P t q a r l i m Place.TypeSpec h = let z : _≡_ {A = ℕ} 0 1 = cc in absurd (omega arith)
+in-plain P t q a r l i m Place.ModifiedSpec h = m
+in-plain P t q a r l i m Place.FnPtrMethod h = let z : _≡_ {A = ℕ} 0 1 = cc in absurd (omega arith)
+in-plain P t q a r l i m Place.FieldSig h = let z : _≡_ {A = ℕ} 0 1 = cc in absurd (omega arith)
+in-plain P t q a r l i m Place.LocalVarSig h = let z : _≡_ {A = ℕ} 0 1 = cc in absurd (omega arith)
+in-plain P t q a r l i m Place.PropertySig h = let z : _≡_ {A = ℕ} 0 1 = cc in absurd (omega arith)
+in-plain P t q a r l i m Place.MethodDefSig h = let z : _≡_ {A = ℕ} 0 1 = cc in absurd (omega arith)
 
--- whether Bare refuses the bytes of all these entries
-abbrev others : List Entry → Bool
-others [] = true
-others (run first last f ∷ es) = (uncut bare first (suc last) && refused (lookup bare first)) && others es
+-- In the places of a type, the table of all of them is the place's own: at a byte that only some allow both compute, and at any other
+-- but a modifier's both are Bare's.
+module _ (p : Place) (h : plain p ≡ true) where
+  Same : ℕ → Type 0
+  Same b = typeFormOf p b ≡ formOf p b
 
-passed : (es : List Entry) (b : ℕ) → T (others es) → refused (lookup bare b) ≡ false → lookup bare b ≡ lookup (es ++ bare) b
-passed [] b t a = refl
-passed (run first last f ∷ es) b t a =
-    let p = both (uncut bare first (suc last) && refused (lookup bare first)) (others es) t in
-    let q = both (uncut bare first (suc last)) (refused (lookup bare first)) (p .0) in
-    past first last b f (es ++ bare) (q .0) (q .1) a (passed es b (p .1) a)
+  at-01 : Same 0x01
+  unfolding typeFormOf formOf entries bare Same
+  at-01 = in-plain (λ q. typeFormOf q 0x01 ≡ formOf q 0x01) refl refl refl refl refl refl refl p h
 
--- what Bare allows means the same in each of the plain places
-bare-first : (p : Place) (b : ℕ) → plain p ≡ true → refused (lookup bare b) ≡ false → lookup bare b ≡ formOf p b
-unfolding formOf entries bare
-bare-first Place.Type b h a = passed (mods Place.Type ∷ []) b tt a
-bare-first Place.Pointee b h a = passed (mods Place.Pointee ∷ void ∷ []) b tt a
-bare-first Place.Param b h a = passed (mods Place.Param ∷ byRef ∷ typedByRef ∷ []) b tt a
-bare-first Place.RetType b h a = passed (mods Place.RetType ∷ byRef ∷ typedByRef ∷ void ∷ []) b tt a
-bare-first Place.Local b h a = passed (mods Place.Local ∷ typedByRef ∷ byRef ∷ one 0x45 (Wrap Place.Pinned) ∷ []) b tt a
-bare-first Place.Pinned b h a = passed (byRef ∷ mods Place.Type ∷ []) b tt a
-bare-first Place.TypeSpec b h a = cc
-bare-first Place.ModifiedSpec b h a = passed (mods Place.ModifiedSpec ∷ void ∷ typedByRef ∷ []) b tt a
-bare-first Place.FnPtrMethod b h a = cc
-bare-first Place.FieldSig b h a = cc
-bare-first Place.LocalVarSig b h a = cc
-bare-first Place.PropertySig b h a = cc
-bare-first Place.MethodDefSig b h a = cc
+  at-10 : Same 0x10
+  unfolding typeFormOf formOf entries bare Same
+  at-10 = in-plain (λ q. typeFormOf q 0x10 ≡ formOf q 0x10) refl refl refl refl refl refl refl p h
 
-module _ (b : ℕ) (e : within 0x1F 0x20 b ≡ true) where
-  modified : (p : Place) → plain p ≡ true → Modified (behindOf p) ≡ formOf p b
-  unfolding formOf entries
-  modified Place.Type h = rw e
-  modified Place.Pointee h = rw e
-  modified Place.Param h = rw e
-  modified Place.RetType h = rw e
-  modified Place.Local h = rw e
-  modified Place.Pinned h = let i = within-true 0x1F 0x20 b e in rw (e, outside 0x10 0x10 b (λ l u. omega (arith, i)))
-  modified Place.TypeSpec h = cc
-  modified Place.ModifiedSpec h = rw e
-  modified Place.FnPtrMethod h = cc
-  modified Place.FieldSig h = cc
-  modified Place.LocalVarSig h = cc
-  modified Place.PropertySig h = cc
-  modified Place.MethodDefSig h = cc
+  at-16 : Same 0x16
+  unfolding typeFormOf formOf entries bare Same
+  at-16 = in-plain (λ q. typeFormOf q 0x16 ≡ formOf q 0x16) refl refl refl refl refl refl refl p h
 
-rest-form : (p : Place) (b : ℕ) → plain p ≡ true → restFormOf p b ≡ formOf p b
-unfolding restFormOf
-rest-form p b h = go (within 0x1F 0x20 b) refl
-  where
-    go : (t : Bool) → within 0x1F 0x20 b ≡ t → cond t (Modified (behindOf p)) (formOf p b) ≡ formOf p b
-    go true e = modified b e p h
-    go false e = refl
+  at-45 : Same 0x45
+  unfolding typeFormOf formOf entries bare Same
+  at-45 = in-plain (λ q. typeFormOf q 0x45 ≡ formOf q 0x45) refl refl refl refl refl refl refl p h
 
-pub type-form : (p : Place) (b : ℕ) → plain p ≡ true → typeFormOf p b ≡ formOf p b
-unfolding typeFormOf
-type-form p b h = go (refused (lookup bare b)) refl
-  where
-    go : (t : Bool) → refused (lookup bare b) ≡ t → cond t (restFormOf p b) (lookup bare b) ≡ formOf p b
-    go true e = rest-form p b h
-    go false e = bare-first p b h e
+  module _ (b : ℕ) where
+    modified : within 0x1F 0x20 b ≡ true → Same b
+    unfolding typeFormOf formOf entries Same
+    modified e =
+        let i = within-true 0x1F 0x20 b e in
+        in-plain (λ q. typeFormOf q b ≡ formOf q b) (rw e) (rw e) (rw e) (rw e) (rw e) (rw (e, outside 0x10 0x10 b (λ l u. omega (arith, i)))) (rw e) p h
+
+    bare-alone : within 0x1F 0x20 b ≡ false → within 0x01 0x01 b ≡ false → within 0x10 0x10 b ≡ false → within 0x16 0x16 b ≡ false → within 0x45 0x45 b ≡ false → Same b
+    unfolding typeFormOf formOf entries Same
+    bare-alone m x01 x10 x16 x45 =
+        in-plain (λ q. typeFormOf q b ≡ formOf q b) (simp (m, x01, x10, x16, x45)) (simp (m, x01, x10, x16, x45)) (simp (m, x01, x10, x16, x45)) (simp (m, x01, x10, x16, x45)) (simp (m, x01, x10, x16, x45))
+        (simp (m, x01, x10, x16, x45)) (simp (m, x01, x10, x16, x45)) p h
+
+    at-one : (k : ℕ) → within k k b ≡ true → Same k → Same b
+    at-one k e s = let i = within-true k k b e in let z : b ≡ k = omega (arith, i) in subst Same (sym z) s
+
+    pub type-form : typeFormOf p b ≡ formOf p b
+    unfolding Same
+    type-form = go (within 0x1F 0x20 b) refl (within 0x01 0x01 b) refl (within 0x10 0x10 b) refl (within 0x16 0x16 b) refl (within 0x45 0x45 b) refl
+      where
+        go : (m : Bool) → within 0x1F 0x20 b ≡ m → (x01 : Bool) → within 0x01 0x01 b ≡ x01 → (x10 : Bool) → within 0x10 0x10 b ≡ x10 → (x16 : Bool) → within 0x16 0x16 b ≡ x16
+            → (x45 : Bool) → within 0x45 0x45 b ≡ x45 → Same b
+        go true e x01 e01 x10 e10 x16 e16 x45 e45 = modified e
+        go false e true e01 x10 e10 x16 e16 x45 e45 = at-one 0x01 e01 at-01
+        go false e false e01 true e10 x16 e16 x45 e45 = at-one 0x10 e10 at-10
+        go false e false e01 false e10 true e16 x45 e45 = at-one 0x16 e16 at-16
+        go false e false e01 false e10 false e16 true e45 = at-one 0x45 e45 at-45
+        go false e false e01 false e10 false e16 false e45 = bare-alone e e01 e10 e16 e45

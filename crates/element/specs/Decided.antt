@@ -1,25 +1,13 @@
--- Internal: the forms in the order in which the code decides them, Bare's first. That it is the same is a law (proofs/Runs.antt).
+-- Internal: the forms as the reader asks for them, of all places of a type or of a method at once. That they are the table's is a law
+-- (proofs/Runs.antt).
 use Prim.Native.Nat.{ℕ}
 use mathlib.Core.Bool.{Bool, true, false, cond}
+use mathlib.Core.List.{List, _∷_}
 use Rattle.element.specs.declared.Place.{Place}
 use Rattle.element.specs.declared.Place.the-variants as Place
 use Rattle.element.specs.declared.Form.{Form}
-use Rattle.element.specs.declared.Form.the-variants.{Refused, Leaf, Named, Variable, Wrap, Modified, Counted, Array, Instance, FnPtr, Callable, Generic}
-use Rattle.element.specs.Element.{within, lookup, bare, formOf}
-
-abbrev pub refused : Form → Bool
-refused Refused = true
-refused Leaf = false
-refused Named = false
-refused Variable = false
-refused (Wrap p) = false
-refused (Modified p) = false
-refused (Counted p) = false
-refused Array = false
-refused Instance = false
-refused FnPtr = false
-refused Callable = false
-refused Generic = false
+use Rattle.element.specs.declared.Form.the-variants.{Refused, Leaf, Wrap, Modified}
+use Rattle.element.specs.Element.{Entry, run, one, allowed, lookup, bare, formOf}
 
 -- the place behind a modifier
 abbrev pub behindOf : Place → Place
@@ -37,13 +25,22 @@ behindOf Place.LocalVarSig = Place.LocalVarSig
 behindOf Place.PropertySig = Place.PropertySig
 behindOf Place.MethodDefSig = Place.MethodDefSig
 
--- a modifier's form, or the place's
-unfoldable pub restFormOf : Place → ℕ → Form
-restFormOf p b = cond (within 0x1F 0x20 b) (Modified (behindOf p)) (formOf p b)
+-- a byte that only some places allow: its form where the place p is one of them
+abbrev pub extra : Place → ℕ → Form → Entry
+extra p b f = one b (cond (allowed (formOf p b)) f Refused)
 
--- Bare's form, or where Bare refuses the byte that
+-- the entries of all places of a type in one
+abbrev pub typeEntries : Place → List Entry
+typeEntries p =
+    run 0x1F 0x20 (Modified (behindOf p))
+    ∷ extra p 0x01 Leaf
+    ∷ extra p 0x10 (Wrap Place.Type)
+    ∷ extra p 0x16 Leaf
+    ∷ extra p 0x45 (Wrap Place.Pinned)
+    ∷ bare
+
 unfoldable pub typeFormOf : Place → ℕ → Form
-typeFormOf p b = cond (refused (lookup bare b)) (restFormOf p b) (lookup bare b)
+typeFormOf p b = lookup (typeEntries p) b
 
 -- the places of a type, but the first byte of a TypeSpec: there that is the form (proofs/Runs.antt)
 abbrev pub plain : Place → Bool

@@ -1,12 +1,26 @@
 -- Document 01, "Element bytes (hex)" and "The grammar": the code bytes that each place allows, and what follows each of them.
 use Prim.Native.Nat.{ℕ}
 use mathlib.Core.List.{List, [], _∷_}
-use mathlib.Core.Bool.{Bool, cond, _&&_}
+use mathlib.Core.Bool.{Bool, true, false, cond, _&&_}
 use lib.Dec.{leb}
 use Rattle.element.specs.declared.Place.{Place}
 use Rattle.element.specs.declared.Place.the-variants as Place
 use Rattle.element.specs.declared.Form.{Form}
 use Rattle.element.specs.declared.Form.the-variants.{Refused, Leaf, Named, Variable, Wrap, Modified, Counted, Array, Instance, FnPtr, Callable, Generic}
+
+abbrev pub allowed : Form → Bool
+allowed Refused = false
+allowed Leaf = true
+allowed Named = true
+allowed Variable = true
+allowed (Wrap p) = true
+allowed (Modified p) = true
+allowed (Counted p) = true
+allowed Array = true
+allowed Instance = true
+allowed FnPtr = true
+allowed Callable = true
+allowed Generic = true
 
 -- the bytes from the first to the last, and their form
 pub data Entry : Type 0 where

@@ -1,7 +1,8 @@
 // The element bytes: what may follow a code byte in each place of the grammar. Each place decides the byte by one match.
 ghost use mathlib.Core.Path.{_≡_};
-ghost use Rattle.element.specs.Element.{bare, leads, lookup, formOf};
-ghost use Rattle.element.specs.Decided.{refused, behindOf, restFormOf, typeFormOf, leadFormOf};
+ghost use mathlib.Core.Bool.{cond};
+ghost use Rattle.element.specs.Element.{allowed, bare, leads, lookup, formOf};
+ghost use Rattle.element.specs.Decided.{behindOf, typeFormOf, leadFormOf};
 
 // Where in the grammar a node stands.
 pub enum Place {
@@ -233,23 +234,31 @@ pub fn form_of(place: Place, b: u8) -> Form
     }
 }
 
-fn is_refused(form: Form) -> bool
-    ensures { λ r. ⌜ r ≡ refused form ⌝ }
+pub fn is_allowed(form: Form) -> bool
+    ensures { λ r. ⌜ r ≡ allowed form ⌝ }
 {
     match form {
-        Form::Refused => true,
-        Form::Leaf => false,
-        Form::Named => false,
-        Form::Variable => false,
-        Form::Wrap(_) => false,
-        Form::Modified(_) => false,
-        Form::Counted(_) => false,
-        Form::Array => false,
-        Form::Instance => false,
-        Form::FnPtr => false,
-        Form::Callable => false,
-        Form::Generic => false,
+        Form::Refused => false,
+        Form::Leaf => true,
+        Form::Named => true,
+        Form::Variable => true,
+        Form::Wrap(_) => true,
+        Form::Modified(_) => true,
+        Form::Counted(_) => true,
+        Form::Array => true,
+        Form::Instance => true,
+        Form::FnPtr => true,
+        Form::Callable => true,
+        Form::Generic => true,
     }
+}
+
+// Whether a place allows the code byte `b`.
+pub fn allows(place: Place, b: u8) -> bool
+    ensures { λ r. ⌜ r ≡ allowed (formOf place b) ⌝ }
+{
+    let form = form_of(place, b);
+    is_allowed(form)
 }
 
 // The place behind a modifier that stands in a place of a type.
@@ -273,29 +282,35 @@ fn behind(place: Place) -> Place
     }
 }
 
-// A modifier stands in every place of a type; what else Bare refuses is for the place to say.
-fn rest_form(place: Place, b: u8) -> Form
-    ensures { λ r. ⌜ r ≡ restFormOf place b ⌝ }
+// The form of a byte that only some places allow.
+fn where_allowed(place: Place, b: u8, form: Form) -> Form
+    ensures { λ r. ⌜ r ≡ cond (allowed (formOf place b)) form Form.Refused ⌝ }
 {
-    match b {
-        0x1F | 0x20 => {
-            let child = behind(place);
-            Form::Modified(child)
-        }
-        _ => form_of(place, b),
+    if allows(place, b) {
+        return form;
     }
+    Form::Refused
 }
 
-// What Bare allows means the same in all places of a type: it is looked at first.
+// What follows the code byte `b` in a place of a type, decided by the byte first: what Bare allows means the same in all of them.
 pub fn type_form_of(place: Place, b: u8) -> Form
     ensures { λ r. ⌜ r ≡ typeFormOf place b ⌝ }
 {
-    let form = bare_form(b);
-    let other = is_refused(form);
-    if other {
-        return rest_form(place, b);
+    match b {
+        0x02..=0x0E | 0x18 | 0x19 | 0x1C => Form::Leaf,
+        0x11 | 0x12 => Form::Named,
+        0x13 | 0x1E => Form::Variable,
+        0x0F => Form::Wrap(Place::Pointee),
+        0x1D => Form::Wrap(Place::Type),
+        0x14 => Form::Array,
+        0x15 => Form::Instance,
+        0x1B => Form::FnPtr,
+        0x1F | 0x20 => Form::Modified(behind(place)),
+        0x01 | 0x16 => where_allowed(place, b, Form::Leaf),
+        0x10 => where_allowed(place, b, Form::Wrap(Place::Type)),
+        0x45 => where_allowed(place, b, Form::Wrap(Place::Pinned)),
+        _ => Form::Refused,
     }
-    form
 }
 
 // What follows a method's lead byte `b` in its place; all else is refused.

@@ -14,13 +14,13 @@ use Rattle.number.specs.Token.{tagOf, rowOf, rowsOf, typeTags, modTags, tokenOf
 use Rattle.number.specs.declared.checked.Checked.{Checked}
 use Rattle.number.specs.declared.checked.Checked.the-variants.{Good}
 use Rattle.number.specs.declared.token.Counts.{Counts}
-use Rattle.element.specs.Element.{within}
+use Rattle.element.specs.Element.{allowed, within}
 use Rattle.element.specs.declared.Place.{Place}
 use Rattle.element.specs.declared.Place.the-variants as Place
 use Rattle.element.specs.declared.Form.{Form}
 use Rattle.grammar.specs.Limits.{maxNodes, maxRank}
 use Rattle.grammar.specs.Table.{entry, kindOf, SIZE, LOW}
-use Rattle.grammar.specs.Judge.{Out, done, bind, check, numbered, number, many, bound, Reader, callable, body, allowed, opened, node}
+use Rattle.grammar.specs.Judge.{Out, done, bind, check, numbered, number, many, bound, Reader, callable, body, opened, node}
 use Rattle.grammar.specs.Derives.{Span, Numeral, Token, Many, none, more, Bound, bounded, Code, Call, call, Step, leaf, named, variable, wrap, modified, counted, array, inst, fnptr, method, generic, Derives}
 use Rattle.grammar.specs.declared.Node.{Node}
 use Rattle.number.proofs.Laws.{encoded}

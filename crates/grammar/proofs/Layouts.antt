@@ -9,14 +9,13 @@ use mathlib.Core.List.{List, [], _∷_}
 use lib.Dec.{ltb, eqb}
 use borrow.Author.Tests.{ltb-true, ltb-false, eqb-true, eqb-false, ne-eqb}
 use Rattle.number.specs.Number.{encode}
-use Rattle.element.specs.Element.{Entry, run, lookup, bare, leads, entries, formOf}
+use Rattle.element.specs.Element.{allowed, Entry, run, lookup, bare, leads, entries, formOf}
 use Rattle.element.specs.declared.Place.{Place}
 use Rattle.element.specs.declared.Place.the-variants as Place
 use Rattle.element.specs.declared.Form.{Form}
 use Rattle.element.specs.declared.Form.the-variants.{Refused, Leaf, Named, Variable, Wrap, Modified, Counted, Array, Instance, FnPtr, Callable, Generic}
 use Rattle.element.proofs.Runs.{outside}
 use Rattle.grammar.specs.Table.{entry, kindOf, FIELD, LOCALS}
-use Rattle.grammar.specs.Judge.{allowed}
 use Rattle.grammar.specs.Derives.{Code}
 use Rattle.grammar.specs.Emit.{Layout, plain, valued, array, instance, callable, field, locals, layoutOf, partsOf}
 use Rattle.grammar.proofs.Sound.{both-left, both-right}

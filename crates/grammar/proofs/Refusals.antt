@@ -19,7 +19,7 @@ use Rattle.number.specs.declared.checked.Checked.{Checked}
 use Rattle.number.specs.declared.checked.Checked.the-variants.{Good, Bad}
 use Rattle.number.specs.declared.token.Counts.{Counts}
 use Rattle.number.proofs.Laws.{onward}
-use Rattle.element.specs.Element.{within, formOf}
+use Rattle.element.specs.Element.{allowed, within, formOf}
 use Rattle.element.specs.declared.Place.{Place}
 use Rattle.element.specs.declared.Place.the-variants as Place
 use Rattle.element.specs.declared.Form.{Form}
@@ -27,7 +27,7 @@ use Rattle.element.specs.declared.Form.the-variants.{Refused, Leaf, Named, Vari
 use Rattle.grammar.specs.Kinds.{maxKind, rootOf}
 use Rattle.grammar.specs.Limits.{maxBytes, maxNodes, maxDepth, maxRank}
 use Rattle.grammar.specs.Table.{kindOf, SIZE, LOW}
-use Rattle.grammar.specs.Judge.{Out, fault, done, bind, check, numbered, many, bound, Reader, callable, body, allowed, opened, node, known, judge, reading}
+use Rattle.grammar.specs.Judge.{Out, fault, done, bind, check, numbered, many, bound, Reader, callable, body, opened, node, known, judge, reading}
 use Rattle.grammar.specs.declared.Node.{Node}
 use Rattle.grammar.proofs.Sound.{holds-done}
 use Rattle.grammar.proofs.Bounds.{ends-judge}

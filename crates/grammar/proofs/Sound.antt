@@ -16,14 +16,14 @@ use Rattle.number.specs.declared.Number.the-variants.{Value, Cut, BadByte, TooL
 use Rattle.number.specs.declared.checked.Checked.{Checked}
 use Rattle.number.specs.declared.checked.Checked.the-variants.{Good, Bad}
 use Rattle.number.specs.declared.token.Counts.{Counts}
-use Rattle.element.specs.Element.{within, formOf}
+use Rattle.element.specs.Element.{allowed, within, formOf}
 use Rattle.element.specs.declared.Place.{Place}
 use Rattle.element.specs.declared.Place.the-variants as Place
 use Rattle.element.specs.declared.Form.{Form}
 use Rattle.element.specs.declared.Form.the-variants.{Refused, Leaf, Named, Variable, Wrap, Modified, Counted, Array, Instance, FnPtr, Callable, Generic}
 use Rattle.grammar.specs.Limits.{maxNodes, maxRank}
 use Rattle.grammar.specs.Table.{entry, kindOf, SIZE, LOW}
-use Rattle.grammar.specs.Judge.{Out, fault, done, bind, check, numbered, number, count, token, many, bound, Reader, callable, body, allowed, opened, node}
+use Rattle.grammar.specs.Judge.{Out, fault, done, bind, check, numbered, number, count, token, many, bound, Reader, callable, body, opened, node}
 use Rattle.grammar.specs.Derives.{Span, Numeral, Token, Many, none, more, Bound, bounded, Call, call, Step, leaf, named, variable, wrap, modified, counted, array, inst, fnptr, method, generic, Derives}
 use Rattle.grammar.specs.declared.Node.{Node}
 use Rattle.number.proofs.Laws.{decoded}

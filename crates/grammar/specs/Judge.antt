@@ -11,7 +11,7 @@ use Rattle.number.specs.Token.{typeTags, modTags, tokenAt}
 use Rattle.number.specs.declared.checked.Checked.{Checked}
 use Rattle.number.specs.declared.checked.Checked.the-variants.{Good, Bad}
 use Rattle.number.specs.declared.token.Counts.{Counts}
-use Rattle.element.specs.Element.{within, formOf}
+use Rattle.element.specs.Element.{within, allowed, formOf}
 use Rattle.element.specs.declared.Place.{Place}
 use Rattle.element.specs.declared.Place.the-variants as Place
 use Rattle.element.specs.declared.Form.{Form}
@@ -126,20 +126,6 @@ body read d s counts kind b at n FnPtr =
 body read d s counts kind b at n Callable = callable read s counts kind 0 b at n (at + 1)
 body read d s counts kind b at n Generic =
     count 1 maxNumber s (at + 1) (λ g next. callable read s counts kind g b at n next)
-
-abbrev pub allowed : Form → Bool
-allowed Refused = false
-allowed Leaf = true
-allowed Named = true
-allowed Variable = true
-allowed (Wrap p) = true
-allowed (Modified p) = true
-allowed (Counted p) = true
-allowed Array = true
-allowed Instance = true
-allowed FnPtr = true
-allowed Callable = true
-allowed Generic = true
 
 -- The code byte at `at` in the place p, of the node with index n, for which d levels are left: "At a code byte: 2, 5, 6, 10"
 abbrev pub opened : (d : ℕ) → List ℕ → Place → (at n : ℕ) → (ℕ → Form → Out) → Out

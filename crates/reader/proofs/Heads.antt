@@ -2,7 +2,7 @@
 -- Assumes nothing.
 use Prim.Native.Nat.{ℕ, _+_, _≤_, _<_}
 use native.Mathlib.Omega.{arith}
-use mathlib.Core.Path.{_≡_, refl, sym, _∙_}
+use mathlib.Core.Path.{_≡_, refl, sym, ap, _∙_}
 use mathlib.Core.Bool.{Bool, true, false, cond, _&&_}
 use mathlib.Core.List.{List}
 use lib.ListN.{length, getD}
@@ -16,18 +16,17 @@ use Rattle.number.specs.declared.checked.Checked.{Checked}
 use Rattle.number.specs.declared.checked.Checked.the-variants.{Good, Bad}
 use Rattle.number.specs.declared.token.Counts.{Counts}
 use Rattle.number.proofs.Laws.{decoded, onward}
-use Rattle.element.specs.Element.{within, formOf}
+use Rattle.element.specs.Element.{within, allowed, formOf}
 use Rattle.element.specs.Decided.{leadFormOf, plain}
 use Rattle.element.specs.declared.Place.{Place}
 use Rattle.element.specs.declared.Place.the-variants as Place
 use Rattle.element.specs.declared.Form.{Form}
-use Rattle.element.specs.declared.Form.the-variants.{Instance}
-use Rattle.element.proofs.Runs.{inside, outside}
+use Rattle.element.specs.declared.Form.the-variants.{Refused, Leaf, Named, Variable, Wrap, Modified, Counted, Array, Instance, FnPtr, Callable, Generic}
+use Rattle.element.proofs.Runs.{inside, outside, in-plain}
 use Rattle.grammar.specs.Limits.{maxNodes}
 use Rattle.grammar.specs.Table.{kindOf}
-use Rattle.grammar.specs.Judge.{allowed}
 use Rattle.grammar.proofs.Sound.{both-right}
-use Rattle.reader.specs.Open.{codeOf, codeAt, opening, instanceOf, headOf, openOf, leading, leadForm, leadOf}
+use Rattle.reader.specs.Open.{codeOf, codeAt, opening, instanceOf, headOf, openOf, openCode, leading, leadForm, leadOf}
 use Rattle.reader.specs.Walk.{called}
 use Rattle.reader.specs.declared.open.Code.{Code}
 use Rattle.reader.specs.declared.open.Code.the-variants as Code
@@ -126,28 +125,68 @@ code-first d s p n f y h e g = code-some d s p 0 n f y (omega arith) e g
 -- ---- open_at and lead_at
 
 module _ (d : ℕ) (s : List ℕ) (p : Place) (at n : ℕ) (y : Code) (e : y ≡ codeAt d s p at n) where
-  pub open-shut : (counts : Counts) (c : ℕ) → y ≡ Code.Shut c → Open.Shut c at ≡ openOf d counts s p at n
-  unfolding openOf
-  open-shut counts c g = rw (sym e ∙ g)
-
   pub lead-shut : (c : ℕ) → y ≡ Code.Shut c → Lead.Shut c at ≡ leadOf d s p at n
   unfolding leadOf
   lead-shut c g = rw (sym e ∙ g)
 
   module _ (b : ℕ) (f : Form) (g : y ≡ Code.Opens b f) where
-    pub open-head : (counts : Counts) (k : ℕ) (o : Open) → k ≡ kindOf p b → o ≡ headOf f counts s k at → o ≡ openOf d counts s p at n
-    unfolding openOf
-    open-head counts k o q h = rw (sym e ∙ g, ← q) h
-
     pub lead-form : (k : ℕ) (o : Lead) → k ≡ kindOf p b → o ≡ leadForm f s k b at → o ≡ leadOf d s p at n
     unfolding leadOf
     lead-form k o q h = rw (sym e ∙ g, ← q) h
 
 pub open-none : (d : ℕ) (s : List ℕ) (p : Place) (at n : ℕ) (counts : Counts) → length s ≤ at → Open.Shut 2 at ≡ openOf d counts s p at n
-open-none d s p at n counts h = open-shut d s p at n _ (code-none d s p at n h) counts 2 refl
+unfolding openOf codeAt
+open-none d s p at n counts h = rw (le-ltb at (length s) h)
 
 pub lead-none : (d : ℕ) (s : List ℕ) (p : Place) (at n : ℕ) → length s ≤ at → Lead.Shut 2 at ≡ leadOf d s p at n
 lead-none d s p at n h = lead-shut d s p at n _ (code-none d s p at n h) 2 refl
+
+-- a form that is not allowed is refused by 5
+refused-shut : (f : Form) (counts : Counts) (s : List ℕ) (k at : ℕ) → headOf f counts s k at ≡ cond (allowed f) (headOf f counts s k at) (Open.Shut 5 at)
+unfolding headOf
+refused-shut Refused counts s k at = refl
+refused-shut Leaf counts s k at = refl
+refused-shut Named counts s k at = refl
+refused-shut Variable counts s k at = refl
+refused-shut (Wrap p) counts s k at = refl
+refused-shut (Modified p) counts s k at = refl
+refused-shut (Counted p) counts s k at = refl
+refused-shut Array counts s k at = refl
+refused-shut Instance counts s k at = refl
+refused-shut FnPtr counts s k at = refl
+refused-shut Callable counts s k at = refl
+refused-shut Generic counts s k at = refl
+
+-- the byte is there
+module _ (d : ℕ) (s : List ℕ) (p : Place) (at n : ℕ) (counts : Counts) (h : at < length s) where
+  -- no room for its node: y is what `crowded` gave
+  pub open-deep : (y : ℕ) → d ≡ 0 → y ≡ cond (allowed (formOf p (getD s at 0))) 6 5 → Open.Shut y at ≡ openOf d counts s p at n
+  unfolding openOf codeAt codeOf
+  open-deep y z e = rw (lt-ltb at (length s) h, z, e) (go (allowed (formOf p (getD s at 0))))
+    where
+      go : (t : Bool) → Open.Shut (cond t 6 5) at ≡ openCode (cond t (Code.Shut 6) (Code.Shut 5)) counts s p at
+      go true = refl
+      go false = refl
+
+  pub open-full : (y : ℕ) → (d ≡ 0 → ⊥) → maxNodes ≤ n → y ≡ cond (allowed (formOf p (getD s at 0))) 10 5 → Open.Shut y at ≡ openOf d counts s p at n
+  unfolding openOf codeAt codeOf
+  open-full y z m e = let i : 1 ≤ d = omega arith in rw (lt-ltb at (length s) h, le-leb 1 d i, le-ltb n maxNodes m, e) (go (allowed (formOf p (getD s at 0))))
+    where
+      go : (t : Bool) → Open.Shut (cond t 10 5) at ≡ openCode (cond t (Code.Shut 10) (Code.Shut 5)) counts s p at
+      go true = refl
+      go false = refl
+
+  -- room for its node
+  pub open-some : (f : Form) (k : ℕ) (o : Open) → (d ≡ 0 → ⊥) → n < maxNodes → f ≡ formOf p (getD s at 0) → k ≡ kindOf p (getD s at 0) → o ≡ headOf f counts s k at → o ≡ openOf d counts s p at n
+  unfolding openOf codeAt codeOf
+  open-some f k o z m e g q =
+      let i : 1 ≤ d = omega arith in
+      rw (lt-ltb at (length s) h, le-leb 1 d i, lt-ltb n maxNodes m, ← e)
+      (q ∙ ap (λ (j : ℕ). headOf f counts s j at) g ∙ refused-shut f counts s (kindOf p (getD s at 0)) at ∙ go (allowed f))
+    where
+      go : (t : Bool) → cond t (headOf f counts s (kindOf p (getD s at 0)) at) (Open.Shut 5 at) ≡ openCode (cond t (Code.Opens (getD s at 0) f) (Code.Shut 5)) counts s p at
+      go true = refl
+      go false = refl
 
 -- in a place of a method the form is the lead byte's
 pub called-form : (p : Place) (b : ℕ) → called p ≡ true → leadFormOf p b ≡ formOf p b
@@ -167,19 +206,7 @@ called-form Place.MethodDefSig b h = refl
 
 -- in a place of a type the kind is the byte
 pub plain-kind : (p : Place) (b : ℕ) → plain p ≡ true → b ≡ kindOf p b
-plain-kind Place.Type b h = refl
-plain-kind Place.Pointee b h = refl
-plain-kind Place.Param b h = refl
-plain-kind Place.RetType b h = refl
-plain-kind Place.Local b h = refl
-plain-kind Place.Pinned b h = refl
-plain-kind Place.TypeSpec b h = refl
-plain-kind Place.ModifiedSpec b h = refl
-plain-kind Place.FnPtrMethod b h = cc
-plain-kind Place.FieldSig b h = cc
-plain-kind Place.LocalVarSig b h = cc
-plain-kind Place.PropertySig b h = cc
-plain-kind Place.MethodDefSig b h = cc
+plain-kind p b h = in-plain (λ q. b ≡ kindOf q b) refl refl refl refl refl refl refl p h
 
 -- ---- instance_at
 

@@ -16,14 +16,14 @@ use Rattle.grammar.specs.Judge.{Out, fault, done, bind, numbered, many, bound, 
 use Rattle.grammar.specs.declared.Node.{Node}
 use Rattle.grammar.proofs.Sound.{Holds, holds}
 use Rattle.grammar.proofs.Bounds.{Ends, ends-many, ends-bound, ends-array, ends-node}
-use Rattle.reader.specs.Walk.{putOf, stamp, leaves, walkOf, Walked, recordOf, smallOf, sealsOf, Sealed, ShapeOut, cut, shaped, shapeNumber, shapePrepend, shapeThen, lowsOf, shapeOf, shapeResult, shapeLeaves, Shaped, arrayOf}
+use Rattle.reader.specs.Walk.{putOf, stamp, leaves, walkOf, Walked, series, recordOf, smallOf, sealsOf, Sealed, ShapeOut, cut, shaped, shapeNumber, shapePrepend, shapeThen, lowsOf, shapeOf, shapeResult, shapeLeaves, Shaped, arrayOf}
 use Rattle.reader.specs.declared.open.Head.{Head}
 use Rattle.reader.specs.declared.walk.Walk.{Walk}
 use Rattle.reader.specs.declared.walk.Walk.the-variants.{Next, Stop}
 use Rattle.reader.specs.declared.walk.Shape.{Shape}
 use Rattle.reader.specs.declared.walk.Shape.the-variants as Shape
 use Rattle.reader.proofs.Stamp.{length-stamp, stamp-append}
-use Rattle.reader.proofs.Opens.{andThen, sealed}
+use Rattle.reader.proofs.Opens.{andThen, sealed, series-more, series-same}
 
 -- a walk does not both stop and go on
 pub clash : {X : Type 0} {c p e m : ℕ} → Stop c p ≡ Next e m → X
@@ -114,29 +114,38 @@ unfolding walkOf
 walked-small (fault c p) n w o₀ o₁ g h = subst smallOf (sym (h .result)) tt
 walked-small (done e m rs) n w o₀ o₁ (holds g) h = subst smallOf (sym (h .result)) (omega (arith, g .0))
 
--- ---- a loop over a count, of any item
+-- ---- a loop over a count, whose first item may be another
 
-many-more : (f : ℕ → ℕ → Out) (left e m : ℕ) → 0 < left → many f left e m ≡ andThen (f e m) (many f (left - 1))
-unfolding many andThen
-many-more f zero e m h = absurd (omega arith)
-many-more f (suc k) e m h = let z : suc k - 1 ≡ k = omega arith in rw z (go (f e m))
-  where
-    go : (o : Out) → bind o (λ e₁ m₁ rs. bind (many f k e₁ m₁) (λ e₂ m₂ ts. done e₂ m₂ (rs ++ ts))) ≡ andThen o (many f k)
-    go (fault c p) = refl
-    go (done e₁ m₁ rs) = refl
+module _ (f g : ℕ → ℕ → Out) (left e m : ℕ) (w : Walk) (o o₁ : List ℕ) (h : 0 < left) (x : Walked (f e m) m w o o₁) where
+  unrolled : series f g left e m ≡ andThen (f e m) (many g (left - 1))
+  unrolled = let z : left ≡ left - 1 + 1 = omega arith in ap (λ (k : ℕ). series f g k e m) z ∙ series-more f g (left - 1) e m
+
+  pub series-stop : (c q : ℕ) → w ≡ Stop c q → Walked (series f g left e m) m (Stop c q) o o₁
+  series-stop c q u = walked-is _ _ m _ o o₁ unrolled (walked-stop _ _ m c q o o₁ (found _ m w _ o o₁ u x))
+
+  pub series-next : Holds (Ends m) (f e m) → (e₂ m₂ : ℕ) → w ≡ Next e₂ m₂ → (r : Walk) (fin : List ℕ) → Walked (series g g (left - 1) e₂ m₂) m₂ r o₁ fin → Walked (series f g left e m) m r o fin
+  series-next g₀ e₂ m₂ u r fin y =
+      walked-is _ _ m r o fin unrolled
+      (walked-then _ (many g (left - 1)) m e₂ m₂ r o o₁ fin g₀ (found _ m w _ o o₁ u x) (walked-is _ _ m₂ r o₁ fin (sym (series-same g (left - 1) e₂ m₂)) y))
+
+pub series-end : (f g : ℕ → ℕ → Out) (left e m : ℕ) (o : List ℕ) → left ≤ 0 → Walked (series f g left e m) m (Next e m) o o
+unfolding series
+series-end f g zero e m o h = still e m m o
+series-end f g (suc i) e m o h = absurd (omega arith)
+
+-- ---- a loop over a count, of one sort of item
 
 module _ (f : ℕ → ℕ → Out) (left e m : ℕ) (w : Walk) (o o₁ : List ℕ) (h : 0 < left) (x : Walked (f e m) m w o o₁) where
   pub loop-stop : (c q : ℕ) → w ≡ Stop c q → Walked (many f left e m) m (Stop c q) o o₁
-  loop-stop c q g = walked-is _ _ m _ o o₁ (many-more f left e m h) (walked-stop _ _ m c q o o₁ (found _ m w _ o o₁ g x))
+  loop-stop c q u = walked-is _ _ m _ o o₁ (sym (series-same f left e m)) (series-stop f f left e m w o o₁ h x c q u)
 
   pub loop-more : Holds (Ends m) (f e m) → (e₂ m₂ : ℕ) → w ≡ Next e₂ m₂ → (r : Walk) (fin : List ℕ) → Walked (many f (left - 1) e₂ m₂) m₂ r o₁ fin → Walked (many f left e m) m r o fin
-  loop-more g₀ e₂ m₂ g r fin y =
-      walked-is _ _ m r o fin (many-more f left e m h) (walked-then _ (many f (left - 1)) m e₂ m₂ r o o₁ fin g₀ (found _ m w _ o o₁ g x) y)
+  loop-more g₀ e₂ m₂ u r fin y =
+      walked-is _ _ m r o fin (sym (series-same f left e m))
+      (series-next f f left e m w o o₁ h x g₀ e₂ m₂ u r fin (walked-is _ _ m₂ r o₁ fin (series-same f (left - 1) e₂ m₂) y))
 
 pub loop-end : (f : ℕ → ℕ → Out) (left e m : ℕ) (o : List ℕ) → left ≤ 0 → Walked (many f left e m) m (Next e m) o o
-unfolding many
-loop-end f zero e m o h = still e m m o
-loop-end f (suc i) e m o h = absurd (omega arith)
+loop-end f left e m o h = walked-is _ _ m _ o o (sym (series-same f left e m)) (series-end f f left e m o h)
 
 pub ends-bounds : (s : List ℕ) (kind d k at n : ℕ) → n ≤ maxNodes → Holds (Ends n) (many (bound kind d s) k at n)
 ends-bounds s kind d k at n j = ends-many (bound kind d s) (ends-bound s kind d) k at n j

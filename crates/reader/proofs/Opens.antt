@@ -2,6 +2,7 @@
 -- Assumes nothing.
 use Prim.Native.Nat.{ℕ, zero, suc, _+_, _-_, _≤_, _<_}
 use native.Mathlib.Omega.{arith}
+use native.Mathlib.Numerals.{add-one}
 use mathlib.Core.Path.{_≡_, refl, sym, ap, _∙_}
 use mathlib.Core.Bool.{Bool, true, false, cond}
 use mathlib.Core.List.{List, [], _∷_, _++_, append-nil}
@@ -14,18 +15,18 @@ use Rattle.number.specs.Token.{typeTags, modTags, tokenAt}
 use Rattle.number.specs.declared.checked.Checked.{Checked}
 use Rattle.number.specs.declared.checked.Checked.the-variants.{Good, Bad}
 use Rattle.number.specs.declared.token.Counts.{Counts}
-use Rattle.element.specs.Element.{within, lookup, bare, leads, entries, formOf}
+use Rattle.element.specs.Element.{allowed, within, lookup, bare, leads, entries, formOf}
 use Rattle.element.specs.Decided.{plain}
 use Rattle.element.specs.declared.Place.{Place}
 use Rattle.element.specs.declared.Place.the-variants as Place
 use Rattle.element.specs.declared.Form.{Form}
 use Rattle.element.specs.declared.Form.the-variants.{Refused, Leaf, Named, Variable, Wrap, Modified, Counted, Array, Instance, FnPtr, Callable, Generic}
-use Rattle.element.proofs.Runs.{lookup-passes}
+use Rattle.element.proofs.Runs.{allForms, lookup-passes, in-plain}
 use Rattle.grammar.specs.Limits.{maxNodes}
 use Rattle.grammar.specs.Table.{kindOf, FIELD, LOCALS}
-use Rattle.grammar.specs.Judge.{Out, fault, done, bind, check, numbered, many, Reader, callable, array, body, allowed, opened, node}
+use Rattle.grammar.specs.Judge.{Out, fault, done, bind, check, numbered, many, Reader, callable, array, body, opened, node}
 use Rattle.reader.specs.Open.{head, codeOf, codeAt, opening, instanceOf, headOf, openOf, openCode, leading, callOf, genericOf, leadForm, leadOf, leadCode}
-use Rattle.reader.specs.Walk.{called, recordOf}
+use Rattle.reader.specs.Walk.{called, series, recordOf}
 use Rattle.reader.specs.declared.open.Head.{Head}
 use Rattle.reader.specs.declared.open.Code.{Code}
 use Rattle.reader.specs.declared.open.Code.the-variants as Code
@@ -70,6 +71,19 @@ many-one f at n = go (f at n)
     go (fault code place) = refl
     go (done e m rs) = ap (done e m) (append-nil rs)
 
+pub series-more : (f g : ℕ → ℕ → Out) (k at n : ℕ) → series f g (k + 1) at n ≡ andThen (f at n) (many g k)
+unfolding series andThen
+series-more f g k at n = rw add-one (go (f at n))
+  where
+    go : (o : Out) → bind o (λ at₁ n₁ rs. bind (many g k at₁ n₁) (λ at₂ n₂ ts. done at₂ n₂ (rs ++ ts))) ≡ andThen o (many g k)
+    go (fault code place) = refl
+    go (done e m rs) = refl
+
+pub series-same : (f : ℕ → ℕ → Out) (k at n : ℕ) → series f f k at n ≡ many f k at n
+unfolding series many
+series-same f zero at n = refl
+series-same f (suc k) at n = refl
+
 -- ---- types
 
 -- the outcome that goes with an opening
@@ -110,20 +124,13 @@ typed Callable = false
 typed Generic = false
 
 typed-form : (p : Place) (b : ℕ) → plain p ≡ true → typed (formOf p b) ≡ true
-unfolding formOf entries bare leads
-typed-form Place.Type b e = lookup-passes typed (entries Place.Type) b refl refl
-typed-form Place.Pointee b e = lookup-passes typed (entries Place.Pointee) b refl refl
-typed-form Place.Param b e = lookup-passes typed (entries Place.Param) b refl refl
-typed-form Place.RetType b e = lookup-passes typed (entries Place.RetType) b refl refl
-typed-form Place.Local b e = lookup-passes typed (entries Place.Local) b refl refl
-typed-form Place.Pinned b e = lookup-passes typed (entries Place.Pinned) b refl refl
-typed-form Place.TypeSpec b e = cc
-typed-form Place.ModifiedSpec b e = lookup-passes typed (entries Place.ModifiedSpec) b refl refl
-typed-form Place.FnPtrMethod b e = cc
-typed-form Place.FieldSig b e = cc
-typed-form Place.LocalVarSig b e = cc
-typed-form Place.PropertySig b e = cc
-typed-form Place.MethodDefSig b e = cc
+unfolding formOf entries bare
+typed-form p b h =
+    in-plain (λ q. typed (formOf q b) ≡ true) (passes Place.Type refl) (passes Place.Pointee refl) (passes Place.Param refl) (passes Place.RetType refl) (passes Place.Local refl)
+    (passes Place.Pinned refl) (passes Place.ModifiedSpec refl) p h
+  where
+    passes : (q : Place) → allForms typed (entries q) ≡ true → typed (lookup (entries q) b) ≡ true
+    passes q e = lookup-passes typed (entries q) b refl e
 
 body-open : (read : Reader) (d : ℕ) (s : List ℕ) (counts : Counts) (kind b at n : ℕ) (f : Form) → typed f ≡ true
     → body read d s counts kind b at n f ≡ onOpen (headOf f counts s kind at) read d s counts at n
@@ -154,7 +161,7 @@ body-open read d s counts kind b at n Generic t = cc
 -- the outcome that goes with a method's opening
 unfoldable pub onLead : Lead → Reader → Counts → (at n : ℕ) → Out
 onLead (Lead.Shut code place) read counts at n = fault code place
-onLead (Lead.Go h c next) read counts at n = sealed (andThen (read counts Place.RetType next (n + 1)) (many (read counts Place.Param) c)) h at
+onLead (Lead.Go h next) read counts at n = sealed (series (read counts Place.RetType) (read counts Place.Param) (h .children) next (n + 1)) h at
 
 number-lead : (read : Reader) (counts : Counts) (at n : ℕ) (o : Checked) (from : ℕ) (k : ℕ → ℕ → Out) (h : ℕ → ℕ → Lead)
     → ((v next : ℕ) → k v next ≡ onLead (h v next) read counts at n) → numbered o from k ≡ onLead (leading o from h) read counts at n
@@ -167,7 +174,8 @@ call-lead : (read : Reader) (s : List ℕ) (counts : Counts) (kind a b at n from
 unfolding callOf onLead
 call-lead read s counts kind a b at n from =
     number-lead read counts at n (checkedAt s from) from _ _
-    (λ c next. bind-both (read counts Place.RetType next (n + 1)) (many (read counts Place.Param) c) (head kind a b (c + 1)) at)
+    (λ c next. bind-both (read counts Place.RetType next (n + 1)) (many (read counts Place.Param) c) (head kind a b (c + 1)) at
+    ∙ ap (λ (o : Out). sealed o (head kind a b (c + 1)) at) (sym (series-more (read counts Place.RetType) (read counts Place.Param) c next (n + 1))))
 
 generic-lead : (read : Reader) (s : List ℕ) (counts : Counts) (kind b at n : ℕ)
     → numbered (countAt 1 maxNumber s (at + 1)) (at + 1) (λ g next. callable read s counts kind g b at n next) ≡ onLead (genericOf s kind b at) read counts at n

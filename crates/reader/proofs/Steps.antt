@@ -22,10 +22,11 @@ use Rattle.grammar.specs.Kinds.{maxKind, rootOf}
 use Rattle.grammar.specs.Limits.{maxBytes, maxNodes, maxDepth}
 use Rattle.grammar.specs.Table.{kindOf, FIELD, LOCALS}
 use Rattle.grammar.specs.Judge.{Out, fault, done, bind, check, many, bound, node, known, judge}
-use Rattle.grammar.proofs.Bounds.{ends-many, ends-node}
+use Rattle.grammar.proofs.Bounds.{Ends, ends-many, ends-node}
+use Rattle.grammar.proofs.Sound.{Holds, holds}
 use Rattle.reader.specs.Answer.{answer, answerOf}
 use Rattle.reader.specs.Open.{head, codeAt, openOf, leading, callOf, genericOf, leadForm, leadOf, leadCode}
-use Rattle.reader.specs.Walk.{called, leaves, walkOf, Walked, Judged, smallOf, Sealed, arrayOf}
+use Rattle.reader.specs.Walk.{called, series, leaves, walkOf, Walked, Judged, smallOf, Sealed, arrayOf}
 use Rattle.reader.specs.declared.open.Head.{Head}
 use Rattle.reader.specs.declared.open.Code.{Code}
 use Rattle.reader.specs.declared.open.Code.the-variants as Code
@@ -36,9 +37,9 @@ use Rattle.reader.specs.declared.open.Lead.the-variants as Lead
 use Rattle.reader.specs.declared.walk.Walk.{Walk}
 use Rattle.reader.specs.declared.walk.Walk.the-variants.{Next, Stop}
 use Rattle.reader.proofs.Stamp.{length-stamp}
-use Rattle.reader.proofs.Opens.{sealed, bind-sealed, many-one, onOpen, onLead, Begun, begun, code-begun, Begins, node-open, open-begins, node-lead, node-shut, spec-node, field-node, locals-node}
+use Rattle.reader.proofs.Opens.{sealed, bind-sealed, many-one, series-same, onOpen, onLead, Begun, begun, code-begun, Begins, node-open, open-begins, node-lead, node-shut, spec-node, field-node, locals-node}
 use Rattle.reader.proofs.Heads.{code-none}
-use Rattle.reader.proofs.Laws.{clash, walked-fault, walked-is, found, still, walked-seal, walked-stop, walked-then, walked-next, walked-small}
+use Rattle.reader.proofs.Laws.{clash, walked-fault, walked-is, found, still, walked-seal, walked-small}
 
 -- ---- bound_at. y is what the call gave, and its contract says that it is `checkedAt`
 
@@ -61,6 +62,10 @@ module _ (kind d : ℕ) (s : List ℕ) (at n : ℕ) (y : Checked) (e : y ≡ che
         (walked-seal _ n _ at _ r o o o₁ (still next (n + 1) (n + 1) o) q)
 
 -- ---- types_at
+
+-- all in one place
+alike : (f : ℕ → ℕ → Out) (k at n : ℕ) (r : Walk) (o o₁ : List ℕ) → Walked (series f f k at n) n r o o₁ → Walked (many f k at n) n r o o₁
+alike f k at n r o o₁ x = walked-is _ _ n r o o₁ (sym (series-same f k at n)) x
 
 module _ (d : ℕ) (s : List ℕ) (counts : Counts) (p : Place) (at n : ℕ) (t : plain p ≡ true) (y : Open) (e : y ≡ openOf d counts s p at n) where
   opened-as : (x : Open) → y ≡ x → node d s counts p at n ≡ onOpen x (node (d - 1) s) (d - 1) s counts at n
@@ -100,15 +105,16 @@ module _ (d : ℕ) (s : List ℕ) (counts : Counts) (p : Place) (at n : ℕ) (t 
     unfolding Begins
     all-bounds = begins-as _ g
 
-    module _ (w : Walk) (o₀ o₁ : List ℕ) (x : Walked (many (node (d - 1) s counts q) (h .children) next (n + 1)) (n + 1) w o₀ o₁) where
+    module _ (w : Walk) (o₀ o₁ : List ℕ) (x : Walked (series (node (d - 1) s counts q) (node (d - 1) s counts q) (h .children) next (n + 1)) (n + 1) w o₀ o₁) where
       pub all-small : smallOf w
       all-small =
           walked-small _ (n + 1) w o₀ o₁
-          (ends-many (node (d - 1) s counts q) (ends-node s (d - 1) counts q) (h .children) next (n + 1) (omega (arith, all-bounds .2))) x
+          (ends-many (node (d - 1) s counts q) (ends-node s (d - 1) counts q) (h .children) next (n + 1) (omega (arith, all-bounds .2)))
+          (alike _ _ _ (n + 1) w o₀ o₁ x)
 
       pub all-done : (r : Walk) (o₂ : List ℕ) → Sealed w n h at r o₁ o₂ → Walked (node d s counts p at n) n r o₀ o₂
       unfolding onOpen
-      all-done r o₂ z = walked-is _ _ n r o₀ o₂ (opened-as _ g) (walked-seal _ n h at w r o₀ o₁ o₂ x z)
+      all-done r o₂ z = walked-is _ _ n r o₀ o₂ (opened-as _ g) (walked-seal _ n h at w r o₀ o₁ o₂ (alike _ _ _ (n + 1) w o₀ o₁ x) z)
 
   module _ (kind : ℕ) (g : y ≡ Open.Array kind) where
     pub array-bounds : (0 < d) × (at < length s) × (n < maxNodes)
@@ -121,14 +127,14 @@ module _ (d : ℕ) (s : List ℕ) (counts : Counts) (p : Place) (at n : ℕ) (t 
 
 -- ---- type_at
 
-pub one-walked : (f : ℕ → ℕ → Out) (at n : ℕ) (r : Walk) (o o₁ : List ℕ) → Walked (many f 1 at n) n r o o₁ → Walked (f at n) n r o o₁
-one-walked f at n r o o₁ x = walked-is _ _ n r o o₁ (sym (many-one f at n)) x
+pub one-walked : (f : ℕ → ℕ → Out) (at n : ℕ) (r : Walk) (o o₁ : List ℕ) → Walked (series f f 1 at n) n r o o₁ → Walked (f at n) n r o o₁
+one-walked f at n r o o₁ x = walked-is _ _ n r o o₁ (sym (many-one f at n)) (alike f 1 at n r o o₁ x)
 
 -- ---- method_at
 
 unfoldable LeadBegins : (d len at n : ℕ) → Lead → Type 0
 LeadBegins d len at n (Lead.Shut code place) = Unit {0}
-LeadBegins d len at n (Lead.Go h c next) = (0 < d) × (at < len) × (n < maxNodes)
+LeadBegins d len at n (Lead.Go h next) = (0 < d) × (at < len) × (n < maxNodes)
 
 module _ (d : ℕ) (s : List ℕ) (at n : ℕ) (i : 0 < d) (j : at < length s) (l : n < maxNodes) where
   leading-begins : (o : Checked) (from : ℕ) (h : ℕ → ℕ → Lead) → ((v next : ℕ) → LeadBegins d (length s) at n (h v next)) → LeadBegins d (length s) at n (leading o from h)
@@ -163,15 +169,16 @@ lead-begins d s p at n = go (codeAt d s p at n) (code-begun d s p at n)
     go (Code.Shut code) b = tt
     go (Code.Opens b f) (begun i j l e) = form-begins d s at n i j l f (kindOf p b) b
 
-pub method-bounds : (d : ℕ) (s : List ℕ) (p : Place) (at n : ℕ) (y : Lead) → y ≡ leadOf d s p at n → (h : Head) (c next : ℕ) → y ≡ Lead.Go h c next
+pub method-bounds : (d : ℕ) (s : List ℕ) (p : Place) (at n : ℕ) (y : Lead) → y ≡ leadOf d s p at n → (h : Head) (next : ℕ) → y ≡ Lead.Go h next
     → (0 < d) × (at < length s) × (n < maxNodes)
 unfolding LeadBegins
-method-bounds d s p at n y e h c next g = subst (LeadBegins d (length s) at n) (sym e ∙ g) (lead-begins d s p at n)
+method-bounds d s p at n y e h next g = subst (LeadBegins d (length s) at n) (sym e ∙ g) (lead-begins d s p at n)
 
-sealed-stop : (o : Out) (n c p : ℕ) (h : Head) (at : ℕ) (o₀ o₁ : List ℕ) → Walked o (n + 1) (Stop c p) o₀ o₁ → Walked (sealed o h at) n (Stop c p) o₀ o₁
-unfolding sealed walkOf leaves
-sealed-stop (fault c′ p′) n c p h at o₀ o₁ x = record { result = x .result; left = x .left }
-sealed-stop (done e m rs) n c p h at o₀ o₁ x = clash (x .result)
+-- the walk below a node whose record is put is as small as the node's
+sealed-small : (o : Out) (n at : ℕ) (h : Head) (w : Walk) (o₀ o₁ : List ℕ) → Holds (Ends n) (sealed o h at) → Walked o (n + 1) w o₀ o₁ → smallOf w
+unfolding sealed walkOf
+sealed-small (fault c p) n at h w o₀ o₁ g x = subst smallOf (sym (x .result)) tt
+sealed-small (done e m rs) n at h w o₀ o₁ (holds g) x = subst smallOf (sym (x .result)) (omega (arith, g .0))
 
 module _ (d : ℕ) (s : List ℕ) (counts : Counts) (p : Place) (at n : ℕ) (t : called p ≡ true) (y : Lead) (e : y ≡ leadOf d s p at n) where
   led-as : (x : Lead) → y ≡ x → node d s counts p at n ≡ onLead x (node (d - 1) s) counts at n
@@ -181,28 +188,15 @@ module _ (d : ℕ) (s : List ℕ) (counts : Counts) (p : Place) (at n : ℕ) (t 
   unfolding onLead
   method-stop c q o g = walked-fault _ n c q o (led-as _ g)
 
-  module _ (h : Head) (c next : ℕ) (g : y ≡ Lead.Go h c next) where
-    module _ (w : Walk) (o₀ o₁ : List ℕ) (x : Walked (node (d - 1) s counts Place.RetType next (n + 1)) (n + 1) w o₀ o₁) where
-      pub return-stop : (c′ q : ℕ) → w ≡ Stop c′ q → Walked (node d s counts p at n) n (Stop c′ q) o₀ o₁
-      unfolding onLead
-      return-stop c′ q u =
-          walked-is _ _ n _ o₀ o₁ (led-as _ g)
-          (sealed-stop _ n c′ q h at o₀ o₁ (walked-stop _ _ (n + 1) c′ q o₀ o₁ (found _ (n + 1) w _ o₀ o₁ u x)))
+  module _ (h : Head) (next : ℕ) (g : y ≡ Lead.Go h next) (w : Walk) (o₀ o₁ : List ℕ)
+      (x : Walked (series (node (d - 1) s counts Place.RetType) (node (d - 1) s counts Place.Param) (h .children) next (n + 1)) (n + 1) w o₀ o₁) where
+    pub method-small : smallOf w
+    unfolding onLead
+    method-small = sealed-small _ n at h w o₀ o₁ (subst (Holds (Ends n)) (led-as _ g) (ends-node s d counts p at n)) x
 
-      module _ (e₁ m : ℕ) (u : w ≡ Next e₁ m) (w₂ : Walk) (o₂ : List ℕ) (z : Walked (many (node (d - 1) s counts Place.Param) c e₁ m) m w₂ o₁ o₂) where
-        pub params-small : smallOf w₂
-        params-small =
-            walked-small _ m w₂ o₁ o₂
-            (ends-many (node (d - 1) s counts Place.Param) (ends-node s (d - 1) counts Place.Param) c e₁ m
-            (walked-next _ (n + 1) e₁ m o₀ o₁ (ends-node s (d - 1) counts Place.RetType next (n + 1)) (found _ (n + 1) w _ o₀ o₁ u x))) z
-
-        pub method-done : (r : Walk) (o₃ : List ℕ) → Sealed w₂ n h at r o₂ o₃ → Walked (node d s counts p at n) n r o₀ o₃
-        unfolding onLead
-        method-done r o₃ q =
-            walked-is _ _ n r o₀ o₃ (led-as _ g)
-            (walked-seal _ n h at w₂ r o₀ o₂ o₃
-            (walked-then _ (many (node (d - 1) s counts Place.Param) c) (n + 1) e₁ m w₂ o₀ o₁ o₂ (ends-node s (d - 1) counts Place.RetType next (n + 1)) (found _ (n + 1) w _ o₀ o₁ u x) z)
-            q)
+    pub method-done : (r : Walk) (o₂ : List ℕ) → Sealed w n h at r o₁ o₂ → Walked (node d s counts p at n) n r o₀ o₂
+    unfolding onLead
+    method-done r o₂ q = walked-is _ _ n r o₀ o₂ (led-as _ g) (walked-seal _ n h at w r o₀ o₁ o₂ x q)
 
 -- ---- spec_at, field_at and locals_at. y is what `code_of` gave
 
@@ -228,15 +222,15 @@ module _ (d : ℕ) (s : List ℕ) (counts : Counts) (at n : ℕ) (y : Code) (b :
     pub locals-bad : (c : ℕ) (o : List ℕ) → z ≡ Bad c → Walked (node d s counts Place.LocalVarSig at n) n (Stop c (at + 1)) o o
     locals-bad c o h = walked-fault _ n c (at + 1) o (locals-node s counts at n d b f (sym e ∙ g) ∙ rw (sym k ∙ h))
 
-    module _ (v next : ℕ) (h : z ≡ Good v next) (w : Walk) (o₀ o₁ : List ℕ) (x : Walked (many (node (d - 1) s counts Place.Local) v next (n + 1)) (n + 1) w o₀ o₁) where
+    module _ (v next : ℕ) (h : z ≡ Good v next) (w : Walk) (o₀ o₁ : List ℕ) (x : Walked (series (node (d - 1) s counts Place.Local) (node (d - 1) s counts Place.Local) v next (n + 1)) (n + 1) w o₀ o₁) where
       pub locals-small : n < maxNodes → smallOf w
-      locals-small l = walked-small _ (n + 1) w o₀ o₁ (ends-many (node (d - 1) s counts Place.Local) (ends-node s (d - 1) counts Place.Local) v next (n + 1) (omega arith)) x
+      locals-small l = walked-small _ (n + 1) w o₀ o₁ (ends-many (node (d - 1) s counts Place.Local) (ends-node s (d - 1) counts Place.Local) v next (n + 1) (omega arith)) (alike _ _ _ (n + 1) w o₀ o₁ x)
 
       pub locals-done : (r : Walk) (o₂ : List ℕ) → Sealed w n (head LOCALS 0 0 v) at r o₁ o₂ → Walked (node d s counts Place.LocalVarSig at n) n r o₀ o₂
       locals-done r o₂ q =
           walked-is _ (sealed (many (node (d - 1) s counts Place.Local) v next (n + 1)) (head LOCALS 0 0 v) at) n r o₀ o₂
           (locals-node s counts at n d b f (sym e ∙ g) ∙ (rw (sym k ∙ h) (bind-sealed _ (head LOCALS 0 0 v) at)))
-          (walked-seal _ n _ at w r o₀ o₁ o₂ x q)
+          (walked-seal _ n _ at w r o₀ o₁ o₂ (alike _ _ _ (n + 1) w o₀ o₁ x) q)
 
 -- ---- root_at
 

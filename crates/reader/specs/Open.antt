@@ -11,14 +11,13 @@ use Rattle.number.specs.Token.{typeTags, modTags, tokenAt}
 use Rattle.number.specs.declared.checked.Checked.{Checked}
 use Rattle.number.specs.declared.checked.Checked.the-variants.{Good, Bad}
 use Rattle.number.specs.declared.token.Counts.{Counts}
-use Rattle.element.specs.Element.{within, formOf}
+use Rattle.element.specs.Element.{within, allowed, formOf}
 use Rattle.element.specs.declared.Place.{Place}
 use Rattle.element.specs.declared.Place.the-variants as Place
 use Rattle.element.specs.declared.Form.{Form}
 use Rattle.element.specs.declared.Form.the-variants.{Refused, Leaf, Named, Variable, Wrap, Modified, Counted, Array, Instance, FnPtr, Callable, Generic}
 use Rattle.grammar.specs.Limits.{maxNodes}
 use Rattle.grammar.specs.Table.{kindOf}
-use Rattle.grammar.specs.Judge.{allowed}
 use Rattle.reader.specs.declared.open.Head.{Head}
 use Rattle.reader.specs.declared.open.Code.{Code}
 use Rattle.reader.specs.declared.open.Code.the-variants as Code
@@ -80,7 +79,7 @@ leading (Bad code) at k = Lead.Shut code at
 
 -- a method's ParamCount
 unfoldable pub callOf : List ℕ → (kind a b from : ℕ) → Lead
-callOf s kind a b from = leading (checkedAt s from) from (λ c next. Lead.Go (head kind a b (c + 1)) c next)
+callOf s kind a b from = leading (checkedAt s from) from (λ c next. Lead.Go (head kind a b (c + 1)) next)
 
 -- a generic count, then ParamCount
 unfoldable pub genericOf : List ℕ → (kind b at : ℕ) → Lead

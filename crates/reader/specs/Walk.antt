@@ -1,5 +1,5 @@
 -- What the walk's functions give and leave in the table, by the judge's outcomes. Internal: an auditor goes by Answer.antt and the judge.
-use Prim.Native.Nat.{ℕ, _+_, _*_, _≤_}
+use Prim.Native.Nat.{ℕ, zero, suc, _+_, _*_, _≤_}
 use mathlib.Core.Path.{_≡_}
 use mathlib.Core.Bool.{Bool, true, false, cond}
 use mathlib.Core.List.{List, [], _∷_, _++_}
@@ -14,7 +14,7 @@ use Rattle.element.specs.declared.Place.{Place}
 use Rattle.element.specs.declared.Place.the-variants as Place
 use Rattle.grammar.specs.Limits.{maxRank}
 use Rattle.grammar.specs.Table.{entry, SIZE, LOW, six}
-use Rattle.grammar.specs.Judge.{Out, fault, done, many, bound, array, node}
+use Rattle.grammar.specs.Judge.{Out, fault, done, bind, many, bound, array, node}
 use Rattle.grammar.specs.declared.Node.{Node}
 use Rattle.reader.specs.Answer.{answerOf}
 use Rattle.reader.specs.Open.{head}
@@ -58,6 +58,11 @@ leaves (fault code place) n before after = length after ≡ length before
 leaves (done at m rs) n before after = after ≡ stamp n rs before
 
 -- ---- walks
+
+-- k nodes one after the other, the first read in one way and the rest in another
+unfoldable pub series : (first rest : ℕ → ℕ → Out) → (k at n : ℕ) → Out
+series first rest zero at n = done at n []
+series first rest (suc k) at n = bind (first at n) (λ at₁ n₁ rs. bind (many rest k at₁ n₁) (λ at₂ n₂ ts. done at₂ n₂ (rs ++ ts)))
 
 unfoldable pub walkOf : Out → Walk
 walkOf (fault code place) = Walk.Stop code place

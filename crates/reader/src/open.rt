@@ -2,10 +2,10 @@
 ghost use mathlib.Core.Path.{_≡_};
 ghost use Prim.Native.Nat.{_+_, _<_};
 ghost use lib.ListN.{length};
-ghost use mathlib.Core.Bool.{true};
+ghost use mathlib.Core.Bool.{true, cond};
 ghost use Rattle.element.specs.Decided.{plain};
 ghost use Rattle.grammar.specs.Table.{kindOf};
-ghost use Rattle.grammar.specs.Judge.{allowed};
+ghost use Rattle.element.specs.Element.{allowed, formOf};
 ghost use Rattle.reader.specs.Walk.{called};
 ghost use Rattle.reader.specs.Open.{codeOf, instanceOf, headOf, openOf, callOf, genericOf, leadForm, leadOf};
 use element::Form;
@@ -60,35 +60,16 @@ pub enum Open {
     },
 }
 
-// A method before its return type: refused, or its own numbers and the number of its parameters.
+// A method before its return type: refused, or its own numbers.
 pub enum Lead {
     Shut { code: u32, place: usize },
-    Go { head: Head, count: u32, next: usize },
+    Go { head: Head, next: usize },
 }
 
 pub fn byte32(x: u8) -> u32
     ensures { λ r. ⌜ r ≡ x ⌝ }
 {
     x as u32
-}
-
-fn is_allowed(form: Form) -> bool
-    ensures { λ r. ⌜ r ≡ allowed form ⌝ }
-{
-    match form {
-        Form::Refused => false,
-        Form::Leaf => true,
-        Form::Named => true,
-        Form::Variable => true,
-        Form::Wrap(_) => true,
-        Form::Modified(_) => true,
-        Form::Counted(_) => true,
-        Form::Array => true,
-        Form::Instance => true,
-        Form::FnPtr => true,
-        Form::Callable => true,
-        Form::Generic => true,
-    }
 }
 
 // The kind of a node that begins with `byte` in a place.
@@ -116,7 +97,7 @@ fn kind_of(place: Place, byte: u8) -> u32
 pub fn code_of(form: Form, byte: u8, n: usize, d: usize) -> Code
     ensures { λ r. ⌜ r ≡ codeOf d form byte n ⌝ }
 {
-    let good = is_allowed(form);
+    let good = element::is_allowed(form);
     if good {
         if d == 0 {
             return Code::Shut { code: 6 };
@@ -293,7 +274,17 @@ fn head_at(src: &[u8], counts: Counts, form: Form, kind: u32, at: usize) -> Open
     }
 }
 
-// A type up to its children. Its kind is its code byte.
+// The refusal of a code byte for which there is no room: 5 where the byte is refused, else this number.
+fn crowded(place: Place, byte: u8, code: u32) -> u32
+    ensures { λ r. ⌜ r ≡ cond (allowed (formOf place byte)) code 5 ⌝ }
+{
+    if element::allows(place, byte) {
+        return code;
+    }
+    5
+}
+
+// A type up to its children. Its kind is its code byte. The room is looked at first, for speed.
 pub fn open_at(src: &[u8], counts: Counts, place: Place, at: usize, n: usize, d: usize) -> Open
     requires { ⌜ plain place ≡ true ⌝ }
     ensures { λ r. ⌜ r ≡ openOf d counts (now (src .entry)) place at n ⌝ }
@@ -302,11 +293,16 @@ pub fn open_at(src: &[u8], counts: Counts, place: Place, at: usize, n: usize, d:
         return Open::Shut { code: 2, place: at };
     }
     let byte = src[at];
-    let form = element::type_form_of(place, byte);
-    match code_of(form, byte, n, d) {
-        Code::Shut { code } => Open::Shut { code, place: at },
-        Code::Opens { byte: b, form: f } => head_at(src, counts, f, byte32(b), at),
+    if d == 0 {
+        let code = crowded(place, byte, 6);
+        return Open::Shut { code, place: at };
     }
+    if MAX_NODES <= n {
+        let code = crowded(place, byte, 10);
+        return Open::Shut { code, place: at };
+    }
+    let form = element::type_form_of(place, byte);
+    head_at(src, counts, form, byte32(byte), at)
 }
 
 // ParamCount, which stands at `from`.
@@ -321,7 +317,6 @@ fn call_at(src: &[u8], kind: u32, a: u32, byte: u8, from: usize) -> Lead
                 b: byte32(byte),
                 children: value + 1,
             },
-            count: value,
             next,
         },
         Checked::Bad { code } => Lead::Shut { code, place: from },

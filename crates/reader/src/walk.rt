@@ -8,7 +8,7 @@ ghost use Rattle.element.specs.Decided.{plain};
 ghost use Rattle.element.specs.declared.Place.the-variants as Place;
 ghost use Rattle.grammar.specs.Judge.{judge, node, many, bound};
 ghost use Rattle.grammar.specs.Kinds.{rootOf};
-ghost use Rattle.reader.specs.Walk.{putOf, smallOf, Sealed, Walked, Shaped, lowsOf, shapeOf, arrayOf, called, Judged};
+ghost use Rattle.reader.specs.Walk.{putOf, smallOf, Sealed, Walked, Shaped, lowsOf, shapeOf, arrayOf, called, series, Judged};
 use crate::Answer;
 use crate::open;
 use crate::open::Code;
@@ -230,7 +230,7 @@ fn type_at(
     requires { ⌜ (length (now src) ≤ 4096) × (plain place ≡ true) ⌝ }
     ensures { λ r. ⌜ Walked (node d (now (src .entry)) counts place at n) n r (now (out .entry)) (now (out .exit)) ⌝ }
 {
-    types_at(out, d, src, counts, place, 1, at, n)
+    types_at(out, d, src, counts, place, place, 1, at, n)
 }
 
 // A method: its return type and its parameters are types again.
@@ -248,44 +248,45 @@ fn method_at(
 {
     match open::lead_at(src, place, at, n, d) {
         Lead::Shut { code, place: p } => Walk::Stop { code, place: p },
-        Lead::Go { head, count, next } => match type_at(
-            out,
-            d - 1,
-            src,
-            counts,
-            Place::RetType,
-            next,
-            n + 1,
-        ) {
-            Walk::Next { at: e, node: m } => {
-                let w = types_at(out, d - 1, src, counts, Place::Param, count, e, m);
-                seal(out, n, head, at, w)
-            }
-            Walk::Stop { code, place: p } => Walk::Stop { code, place: p },
-        },
+        Lead::Go { head, next } => {
+            let w = types_at(
+                out,
+                d - 1,
+                src,
+                counts,
+                Place::RetType,
+                Place::Param,
+                head.children,
+                next,
+                n + 1,
+            );
+            seal(out, n, head, at, w)
+        }
     }
 }
 
-// `count` types one after the other. A type without children takes no call.
+// `count` types one after the other, the first in one place and the rest in another. A type without children takes no call.
 fn types_at(
     out: &mut [u32],
     d: usize,
     src: &[u8],
     counts: Counts,
     place: Place,
+    then: Place,
     count: u32,
     at: usize,
     n: usize,
 ) -> Walk
-    requires { ⌜ (length (now src) ≤ 4096) × (plain place ≡ true) ⌝ }
-    ensures { λ r. ⌜ Walked (many (node d (now (src .entry)) counts place) count at n) n r (now (out .entry)) (now (out .exit)) ⌝ }
+    requires { ⌜ (length (now src) ≤ 4096) × (plain place ≡ true) × (plain then ≡ true) ⌝ }
+    ensures { λ r. ⌜ Walked (series (node d (now (src .entry)) counts place) (node d (now (src .entry)) counts then) count at n) n r (now (out .entry)) (now (out .exit)) ⌝ }
 {
     let mut left = count;
     let mut e = at;
     let mut m = n;
+    let mut p = place;
     while 0 < left {
-        let w = match open::open_at(src, counts, place, e, m, d) {
-            Open::Shut { code, place: p } => Walk::Stop { code, place: p },
+        let w = match open::open_at(src, counts, p, e, m, d) {
+            Open::Shut { code, place: q } => Walk::Stop { code, place: q },
             Open::Leaf { head, next } => {
                 let leaf = Walk::Next {
                     at: next,
@@ -298,7 +299,17 @@ fn types_at(
                 seal(out, m, head, e, method)
             }
             Open::All { head, child, next } => {
-                let all = types_at(out, d - 1, src, counts, child, head.children, next, m + 1);
+                let all = types_at(
+                    out,
+                    d - 1,
+                    src,
+                    counts,
+                    child,
+                    child,
+                    head.children,
+                    next,
+                    m + 1,
+                );
                 seal(out, m, head, e, all)
             }
             Open::Array { kind } => array_at(out, d - 1, src, counts, kind, e, m),
@@ -307,8 +318,9 @@ fn types_at(
             Walk::Next { at: e2, node: m2 } => {
                 e = e2;
                 m = m2;
+                p = then;
             }
-            Walk::Stop { code, place: p } => return Walk::Stop { code, place: p },
+            Walk::Stop { code, place: q } => return Walk::Stop { code, place: q },
         }
         left -= 1;
     }
@@ -406,6 +418,7 @@ fn locals_at(out: &mut [u32], counts: Counts, src: &[u8]) -> Walk
                     MAX_DEPTH - 1,
                     src,
                     counts,
+                    Place::Local,
                     Place::Local,
                     value,
                     next,

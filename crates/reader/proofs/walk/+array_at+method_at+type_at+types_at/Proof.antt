@@ -2,17 +2,19 @@
 -- Assumes nothing.
 use Prim.Native.Nat.{ℕ, _+_, _*_, _<_}
 use mathlib.Core.Path.{_≡_, refl, _∙_}
+use mathlib.Core.Bool.{true}
 use mathlib.Core.List.{List}
 use mathlib.Core.Logic.{⊎-elim}
 use native.Mathlib.Omega.{arith}
 use lib.ListN.{length}
 use borrow.Author.Needs.{needs}
-use Rattle.grammar.specs.Judge.{node, many}
+use Rattle.element.specs.Decided.{plain}
+use Rattle.grammar.specs.Judge.{node}
 use Rattle.grammar.proofs.Bounds.{ends-node}
-use Rattle.reader.specs.Walk.{Walked}
+use Rattle.reader.specs.Walk.{series, Walked}
 use Rattle.reader.specs.declared.walk.Walk.{Walk}
-use Rattle.reader.proofs.Laws.{found, walked-as, walked-length, walked-next, loop-stop, loop-more, loop-end, array-stop, array-cut, array-small, array-done}
-use Rattle.reader.proofs.Steps.{type-stop, leaf-bounds, leaf-done, pointer-bounds, pointer-small, pointer-done, all-bounds, all-small, all-done, array-bounds, array-node, one-walked, method-stop, method-bounds, return-stop, params-small, method-done}
+use Rattle.reader.proofs.Laws.{found, walked-as, walked-length, walked-next, series-stop, series-next, series-end, array-stop, array-cut, array-small, array-done}
+use Rattle.reader.proofs.Steps.{type-stop, leaf-bounds, leaf-done, pointer-bounds, pointer-small, pointer-done, all-bounds, all-small, all-done, array-bounds, array-node, one-walked, method-stop, method-bounds, method-small, method-done}
 use borrow.Fn.Kinds.{In}
 use borrow.Fn.PlainCycle.{Measures, is, falls, and}
 use Rattle.reader.proofs.walk.array_at.Reads as array-at
@@ -72,10 +74,10 @@ types-at-below t = and 2 types-at-kinds.ps (falls 2 types-at-kinds.ps _<_ μ-typ
 
 -- whatever ends the rest from here ends the whole
 abbrev types-at-Inv-loop : types-at-lts.InvT-loop
-types-at-Inv-loop out₀ d src counts place count at n left₀ e₀ m₀ out left e m = (length out ≡ length out₀) × ((r : Walk) (fin : List ℕ) → Walked (many (node d src counts place) left e m) m r out fin → Walked (many (node d src counts place) count at n) n r out₀ fin)
+types-at-Inv-loop out₀ d src counts then count at n left₀ e₀ m₀ p₀ out left e m p = (length out ≡ length out₀) × (plain p ≡ true) × ((r : Walk) (fin : List ℕ) → Walked (series (node d src counts p) (node d src counts then) left e m) m r out fin → Walked (series (node d src counts p₀) (node d src counts then) count at n) n r out₀ fin)
 
 abbrev types-at-μ-loop : types-at-lts.MeasureT-loop
-types-at-μ-loop out₀ d src counts place count at n left₀ e₀ m₀ out left e m = left
+types-at-μ-loop out₀ d src counts then count at n left₀ e₀ m₀ p₀ out left e m p = left
 
 -- the loop where the arms of its match have met
 abbrev Read : ℕ → Type 0
@@ -100,12 +102,12 @@ Read t =
 -- one type of the loop
 abbrev Item : (t : ℕ) → Read t → Type 0
 Item t c =
-    Walked (node (c .before .before .before .before .before .before .args .d) (c .before .before .before .before .before .before .args .src .now) (c .before .before .before .before .before .before .args .counts) (c .before .before .before .before .before .before .args .place) (c .before .before .before .loop .e) (c .before .before .before .loop .m)) (c .before .before .before .loop .m) (c .match .w) (c .before .before .before .loop .out) (c .match .out)
+    Walked (node (c .before .before .before .before .before .before .args .d) (c .before .before .before .before .before .before .args .src .now) (c .before .before .before .before .before .before .args .counts) (c .before .before .before .loop .p) (c .before .before .before .loop .e) (c .before .before .before .loop .m)) (c .before .before .before .loop .m) (c .match .w) (c .before .before .before .loop .out) (c .match .out)
 
 -- by what stood before its children
 types-at-item : (t : ℕ) (c : Read t) → Item t c
 types-at-item t c =
-    let p = c .before .before .before .before .before .before .pre .1 .1 in
+    let p = c .before .before .before .loop .inv .1 in
     let q = c .before .open-at .ensures in
     ⊎-elim {C = Item t c} (λ x. walked-as _ _ _ _ _ _ _ (x .3) (x .4) (type-stop _ _ _ _ _ _ p _ q _ _ _ (x .1 .given .1)))
     (⊎-elim {C = Item t c} (λ x. walked-as _ _ _ _ _ _ _ (x .7) (x .8) (leaf-done _ _ _ _ _ _ p _ q _ _ (x .1 .given .1) _ _ _ (x .4 .ensures)))
@@ -144,8 +146,6 @@ pub +array-at+method-at+type-at+types-at-spec : {M : Type 1} → statement M
     (λ t. method-at-lts.spec (
       lead-at-reads.Asked,
       lead-at-reads.Learnt,
-      type-at-below t,
-      type-at.Post,
       types-at-below t,
       types-at.Post,
       seal-reads.Asked,
@@ -156,24 +156,18 @@ pub +array-at+method-at+type-at+types-at-spec : {M : Type 1} → statement M
     (λ c κs. c .before .before .pre .1 .1)
     (λ c. search needs)
     (λ c. search needs)
-    (λ c. omega (arith, method-bounds _ _ _ _ _ _ (c .before .before .before .before .lead-at .ensures) _ _ _ (c .before .before .head .given .1)))
-    (λ c. omega (arith, method-bounds _ _ _ _ _ _ (c .before .before .before .before .lead-at .ensures) _ _ _ (c .before .before .head .given .1)))
-    (λ c κs. let b = method-bounds _ _ _ _ _ _ (c .before .before .before .before .lead-at .ensures) _ _ _ (c .before .before .head .given .1) in (omega (arith, b, c .before .before .before .before .before .before .before .pre .0), (c .before .before .before .before .before .before .before .pre .1 .0, refl)))
-    (λ c. search needs)
-    (λ c. omega (arith, method-bounds _ _ _ _ _ _ (c .before .before .before .before .before .before .before .before .before .before .before .lead-at .ensures) _ _ _ (c .before .before .before .before .before .before .before .before .before .head .given .1)))
-    (λ c κs. let b = method-bounds _ _ _ _ _ _ (c .before .before .before .before .before .before .before .before .before .before .before .lead-at .ensures) _ _ _ (c .before .before .before .before .before .before .before .before .before .head .given .1) in (omega (arith, b, c .before .before .before .before .before .before .before .before .before .before .before .before .before .before .pre .0), (c .before .before .before .before .before .before .before .before .before .before .before .before .before .before .pre .1 .0, refl)))
-    (λ c κs. let b = method-bounds _ _ _ _ _ _ (c .before .before .before .before .before .before .before .before .before .before .before .before .before .before .before .lead-at .ensures) _ _ _ (c .before .before .before .before .before .before .before .before .before .before .before .before .before .head .given .1) in (b .2, omega (arith, b, c .before .before .before .before .before .before .before .before .before .before .before .before .before .before .before .before .before .before .pre .1 .0), params-small _ _ _ _ _ _ (c .before .before .before .before .before .before .before .before .before .before .before .before .before .before .before .before .before .before .pre .1 .1) _ (c .before .before .before .before .before .before .before .before .before .before .before .before .before .before .before .lead-at .ensures) _ _ _ (c .before .before .before .before .before .before .before .before .before .before .before .before .before .head .given .1) _ _ _ (c .before .before .before .before .before .before .before .before .before .before .type-at .ensures) _ _ (c .before .before .before .before .before .before .e .given .1) _ _ (c .before .before .before .types-at .ensures)))
-    (λ c. search needs)
+    (λ c. omega (arith, method-bounds _ _ _ _ _ _ (c .before .before .before .before .lead-at .ensures) _ _ (c .before .before .head .given .1)))
+    (λ c. omega (arith, method-bounds _ _ _ _ _ _ (c .before .before .before .before .lead-at .ensures) _ _ (c .before .before .head .given .1)))
+    (λ c κs. let b = method-bounds _ _ _ _ _ _ (c .before .before .before .before .lead-at .ensures) _ _ (c .before .before .head .given .1) in (omega (arith, b, c .before .before .before .before .before .before .before .pre .0), (c .before .before .before .before .before .before .before .pre .1 .0, refl, refl)))
+    (λ c κs. let b = method-bounds _ _ _ _ _ _ (c .before .before .before .before .before .before .before .before .lead-at .ensures) _ _ (c .before .before .before .before .before .before .head .given .1) in (b .2, omega (arith, b, c .before .before .before .before .before .before .before .before .before .before .before .pre .1 .0), method-small _ _ _ _ _ _ (c .before .before .before .before .before .before .before .before .before .before .before .pre .1 .1) _ (c .before .before .before .before .before .before .before .before .lead-at .ensures) _ _ (c .before .before .before .before .before .before .head .given .1) _ _ _ (c .before .before .before .types-at .ensures)))
     (λ c. method-stop _ _ _ _ _ _ (c .before .before .before .before .before .before .pre .1 .1) _ (c .before .before .before .lead-at .ensures) _ _ _ (c .before .code .given .1))
     (λ c. search needs)
-    (λ c. method-done _ _ _ _ _ _ (c .before .before .before .before .before .before .before .before .before .before .before .before .before .before .before .before .before .before .before .before .before .pre .1 .1) _ (c .before .before .before .before .before .before .before .before .before .before .before .before .before .before .before .before .before .before .lead-at .ensures) _ _ _ (c .before .before .before .before .before .before .before .before .before .before .before .before .before .before .before .before .head .given .1) _ _ _ (c .before .before .before .before .before .before .before .before .before .before .before .before .before .type-at .ensures) _ _ (c .before .before .before .before .before .before .before .before .before .e .given .1) _ _ (c .before .before .before .before .before .before .types-at .ensures) _ _ (c .before .before .seal .ensures))
-    (λ c. search needs)
-    (λ c. return-stop _ _ _ _ _ _ (c .before .before .before .before .before .before .before .before .before .before .before .before .before .pre .1 .1) _ (c .before .before .before .before .before .before .before .before .before .before .lead-at .ensures) _ _ _ (c .before .before .before .before .before .before .before .before .head .given .1) _ _ _ (c .before .before .before .before .before .type-at .ensures) _ _ (c .before .code2 .given .1)))
+    (λ c. method-done _ _ _ _ _ _ (c .before .before .before .before .before .before .before .before .before .before .before .before .before .before .pre .1 .1) _ (c .before .before .before .before .before .before .before .before .before .before .before .lead-at .ensures) _ _ (c .before .before .before .before .before .before .before .before .before .head .given .1) _ _ _ (c .before .before .before .before .before .before .types-at .ensures) _ _ (c .before .before .seal .ensures)))
     (λ t. type-at-lts.spec
     (types-at-below t, types-at.Post)
     (type-at-at t)
     type-at.Post
-    (λ c κs. (omega (arith, c .before .before .before .pre .0), c .before .before .before .pre .1))
+    (λ c κs. let q = c .before .before .before .pre .1 in (omega (arith, c .before .before .before .pre .0), (q .0, q .1, q .1)))
     (λ c. search needs)
     (λ c. one-walked _ _ _ _ _ _ (c .before .before .types-at .ensures)))
     λ t. types-at-lts.spec (
@@ -192,31 +186,31 @@ pub +array-at+method-at+type-at+types-at-spec : {M : Type 1} → statement M
     types-at.Post
     types-at-Inv-loop
     types-at-μ-loop
-    (λ c. (refl, λ r fin y. y))
-    (λ c κs. c .before .before .before .before .pre .1 .1)
+    (λ c. (refl, c .before .before .pre .1 .1, λ r fin y. y))
+    (λ c κs. c .before .loop .inv .1)
     (λ c. search needs)
     (λ c. search needs)
-    (λ c. omega (arith, leaf-bounds _ _ _ _ _ _ (c .before .before .before .before .before .before .before .before .pre .1 .1) _ (c .before .before .before .open-at .ensures) _ _ (c .before .head .given .1)))
-    (λ c κs. omega (arith, leaf-bounds _ _ _ _ _ _ (c .before .before .before .before .before .before .before .before .before .pre .1 .1) _ (c .before .before .before .before .open-at .ensures) _ _ (c .before .before .head .given .1), c .before .before .before .before .before .before .before .before .before .pre .1 .0))
+    (λ c. omega (arith, leaf-bounds _ _ _ _ _ _ (c .before .before .before .before .before .loop .inv .1) _ (c .before .before .before .open-at .ensures) _ _ (c .before .head .given .1)))
+    (λ c κs. omega (arith, leaf-bounds _ _ _ _ _ _ (c .before .before .before .before .before .before .loop .inv .1) _ (c .before .before .before .before .open-at .ensures) _ _ (c .before .before .head .given .1), c .before .before .before .before .before .before .before .before .before .pre .1 .0))
     (λ c. search needs)
-    (λ c. omega (arith, pointer-bounds _ _ _ _ _ _ (c .before .before .before .before .before .before .before .before .before .pre .1 .1) _ (c .before .before .before .before .open-at .ensures) _ _ (c .before .before .head2 .given .1)))
-    (λ c. omega (arith, pointer-bounds _ _ _ _ _ _ (c .before .before .before .before .before .before .before .before .before .pre .1 .1) _ (c .before .before .before .before .open-at .ensures) _ _ (c .before .before .head2 .given .1)))
-    (λ c κs. let b = pointer-bounds _ _ _ _ _ _ (c .before .before .before .before .before .before .before .before .before .pre .1 .1) _ (c .before .before .before .before .open-at .ensures) _ _ (c .before .before .head2 .given .1) in (omega (arith, b, c .before .before .before .before .before .before .before .before .before .pre .0), (c .before .before .before .before .before .before .before .before .before .pre .1 .0, refl)))
-    (λ c κs. let b = pointer-bounds _ _ _ _ _ _ (c .before .before .before .before .before .before .before .before .before .before .before .before .before .pre .1 .1) _ (c .before .before .before .before .before .before .before .before .open-at .ensures) _ _ (c .before .before .before .before .before .before .head2 .given .1) in (b .2, omega (arith, b, c .before .before .before .before .before .before .before .before .before .before .before .before .before .pre .1 .0), pointer-small _ _ _ _ _ _ (c .before .before .before .before .before .before .before .before .before .before .before .before .before .pre .1 .1) _ (c .before .before .before .before .before .before .before .before .open-at .ensures) _ _ (c .before .before .before .before .before .before .head2 .given .1) _ _ _ (c .before .before .before .method-at .ensures)))
+    (λ c. omega (arith, pointer-bounds _ _ _ _ _ _ (c .before .before .before .before .before .before .loop .inv .1) _ (c .before .before .before .before .open-at .ensures) _ _ (c .before .before .head2 .given .1)))
+    (λ c. omega (arith, pointer-bounds _ _ _ _ _ _ (c .before .before .before .before .before .before .loop .inv .1) _ (c .before .before .before .before .open-at .ensures) _ _ (c .before .before .head2 .given .1)))
+    (λ c κs. let b = pointer-bounds _ _ _ _ _ _ (c .before .before .before .before .before .before .loop .inv .1) _ (c .before .before .before .before .open-at .ensures) _ _ (c .before .before .head2 .given .1) in (omega (arith, b, c .before .before .before .before .before .before .before .before .before .pre .0), (c .before .before .before .before .before .before .before .before .before .pre .1 .0, refl)))
+    (λ c κs. let b = pointer-bounds _ _ _ _ _ _ (c .before .before .before .before .before .before .before .before .before .before .loop .inv .1) _ (c .before .before .before .before .before .before .before .before .open-at .ensures) _ _ (c .before .before .before .before .before .before .head2 .given .1) in (b .2, omega (arith, b, c .before .before .before .before .before .before .before .before .before .before .before .before .before .pre .1 .0), pointer-small _ _ _ _ _ _ (c .before .before .before .before .before .before .before .before .before .before .loop .inv .1) _ (c .before .before .before .before .before .before .before .before .open-at .ensures) _ _ (c .before .before .before .before .before .before .head2 .given .1) _ _ _ (c .before .before .before .method-at .ensures)))
     (λ c. search needs)
-    (λ c. omega (arith, all-bounds _ _ _ _ _ _ (c .before .before .before .before .before .before .before .before .before .pre .1 .1) _ (c .before .before .before .before .open-at .ensures) _ _ _ (c .before .before .head3 .given .1)))
-    (λ c. omega (arith, all-bounds _ _ _ _ _ _ (c .before .before .before .before .before .before .before .before .before .pre .1 .1) _ (c .before .before .before .before .open-at .ensures) _ _ _ (c .before .before .head3 .given .1)))
-    (λ c κs. let b = all-bounds _ _ _ _ _ _ (c .before .before .before .before .before .before .before .before .before .pre .1 .1) _ (c .before .before .before .before .open-at .ensures) _ _ _ (c .before .before .head3 .given .1) in (omega (arith, b, c .before .before .before .before .before .before .before .before .before .pre .0), (c .before .before .before .before .before .before .before .before .before .pre .1 .0, b .3)))
-    (λ c κs. let b = all-bounds _ _ _ _ _ _ (c .before .before .before .before .before .before .before .before .before .before .before .before .before .pre .1 .1) _ (c .before .before .before .before .before .before .before .before .open-at .ensures) _ _ _ (c .before .before .before .before .before .before .head3 .given .1) in (b .2, omega (arith, b, c .before .before .before .before .before .before .before .before .before .before .before .before .before .pre .1 .0), all-small _ _ _ _ _ _ (c .before .before .before .before .before .before .before .before .before .before .before .before .before .pre .1 .1) _ (c .before .before .before .before .before .before .before .before .open-at .ensures) _ _ _ (c .before .before .before .before .before .before .head3 .given .1) _ _ _ (c .before .before .before .types-at .ensures)))
+    (λ c. omega (arith, all-bounds _ _ _ _ _ _ (c .before .before .before .before .before .before .loop .inv .1) _ (c .before .before .before .before .open-at .ensures) _ _ _ (c .before .before .head3 .given .1)))
+    (λ c. omega (arith, all-bounds _ _ _ _ _ _ (c .before .before .before .before .before .before .loop .inv .1) _ (c .before .before .before .before .open-at .ensures) _ _ _ (c .before .before .head3 .given .1)))
+    (λ c κs. let b = all-bounds _ _ _ _ _ _ (c .before .before .before .before .before .before .loop .inv .1) _ (c .before .before .before .before .open-at .ensures) _ _ _ (c .before .before .head3 .given .1) in (omega (arith, b, c .before .before .before .before .before .before .before .before .before .pre .0), (c .before .before .before .before .before .before .before .before .before .pre .1 .0, b .3, b .3)))
+    (λ c κs. let b = all-bounds _ _ _ _ _ _ (c .before .before .before .before .before .before .before .before .before .before .loop .inv .1) _ (c .before .before .before .before .before .before .before .before .open-at .ensures) _ _ _ (c .before .before .before .before .before .before .head3 .given .1) in (b .2, omega (arith, b, c .before .before .before .before .before .before .before .before .before .before .before .before .before .pre .1 .0), all-small _ _ _ _ _ _ (c .before .before .before .before .before .before .before .before .before .before .loop .inv .1) _ (c .before .before .before .before .before .before .before .before .open-at .ensures) _ _ _ (c .before .before .before .before .before .before .head3 .given .1) _ _ _ (c .before .before .before .types-at .ensures)))
     (λ c. search needs)
-    (λ c. omega (arith, array-bounds _ _ _ _ _ _ (c .before .before .before .before .before .before .before .before .before .pre .1 .1) _ (c .before .before .before .before .open-at .ensures) _ (c .before .before .kind .given .1)))
-    (λ c κs. let b = array-bounds _ _ _ _ _ _ (c .before .before .before .before .before .before .before .before .before .pre .1 .1) _ (c .before .before .before .before .open-at .ensures) _ (c .before .before .kind .given .1) in (omega (arith, b, c .before .before .before .before .before .before .before .before .before .pre .0), (c .before .before .before .before .before .before .before .before .before .pre .1 .0, b .1, b .2)))
+    (λ c. omega (arith, array-bounds _ _ _ _ _ _ (c .before .before .before .before .before .before .loop .inv .1) _ (c .before .before .before .before .open-at .ensures) _ (c .before .before .kind .given .1)))
+    (λ c κs. let b = array-bounds _ _ _ _ _ _ (c .before .before .before .before .before .before .loop .inv .1) _ (c .before .before .before .before .open-at .ensures) _ (c .before .before .kind .given .1) in (omega (arith, b, c .before .before .before .before .before .before .before .before .before .pre .0), (c .before .before .before .before .before .before .before .before .before .pre .1 .0, b .1, b .2)))
     (λ c. search needs)
     (λ c. search needs)
     (λ c. let x = c .before .before .before in walked-length _ _ _ _ _ (types-at-item t x) ∙ x .before .before .before .loop .inv .0)
-    (λ c. let x = c .before .before .before in x .before .before .before .loop .inv .1 _ _ (loop-stop _ _ _ _ _ _ _ (x .before .before .loop-test .taken) (types-at-item t x) _ _ (c .before .w2 .given .1)))
+    (λ c. let x = c .before .before .before in x .before .before .before .loop .inv .2 _ _ (series-stop _ _ _ _ _ _ _ _ (x .before .before .loop-test .taken) (types-at-item t x) _ _ (c .before .w2 .given .1)))
     (λ c. search needs)
     (λ c. search needs)
-    (λ c. let x = c .before .before .before in let l = x .before .before .before .loop in (walked-length _ _ _ _ _ (types-at-item t x) ∙ l .inv .0, λ r fin y. l .inv .1 r fin (loop-more _ _ _ _ _ _ _ (x .before .before .loop-test .taken) (types-at-item t x) (ends-node _ _ _ _ _ _) _ _ (c .before .w .given .1) r fin y)))
+    (λ c. let x = c .before .before .before in let l = x .before .before .before .loop in (walked-length _ _ _ _ _ (types-at-item t x) ∙ l .inv .0, x .before .before .before .before .before .before .pre .1 .2, λ r fin y. l .inv .2 r fin (series-next _ _ _ _ _ _ _ _ (x .before .before .loop-test .taken) (types-at-item t x) (ends-node _ _ _ _ _ _) _ _ (c .before .w .given .1) r fin y)))
     (λ c. search needs)
-    (λ c. c .before .loop .inv .1 _ _ (loop-end _ _ _ _ _ (c .loop-test .left)))
+    (λ c. c .before .loop .inv .2 _ _ (series-end _ _ _ _ _ _ (c .loop-test .left)))

@@ -20,7 +20,7 @@ locals-at-spec =
     (λ c κs. search needs)
     (λ c. search needs)
     (λ c. search needs)
-    (λ c κs. (c .before .before .before .before .before .before .before .before .before .before .before .before .before .pre, refl))
+    (λ c κs. (c .before .before .before .before .before .before .before .before .before .before .before .before .before .pre, refl, refl))
     (λ c κs. (omega arith, omega arith, locals-small _ _ _ 0 0 _ _ _ (c .before .before .before .before .before .before .before .before .before .enum-told .given .1) (code-first _ _ _ _ _ _ (c .before .before .before .before .before .before .before .before .before .before .before .before .before .before .if1 .left) (c .before .before .before .before .before .before .before .before .before .before .before .before .local-var-sig-form .ensures) (c .before .before .before .before .before .before .before .before .before .before .before .code-of .ensures)) _ (c .before .before .before .before .before .before .before .before .count-at .ensures) _ _ (c .before .before .before .before .before .before .value .given .1) _ _ _ (c .before .before .before .types-at .ensures) (omega arith)))
     (λ c. search needs)
     (λ c. root-stop _ _ _ _ _ _ _ (code-first _ _ _ _ _ _ (c .before .before .before .before .before .before .if1 .left) (c .before .before .before .before .local-var-sig-form .ensures) (c .before .before .before .code-of .ensures)) _ _ (c .before .code .given .1))
