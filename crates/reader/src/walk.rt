@@ -299,17 +299,8 @@ fn types_at(
                 seal(out, m, head, e, method)
             }
             Open::All { head, child, next } => {
-                let all = types_at(
-                    out,
-                    d - 1,
-                    src,
-                    counts,
-                    child,
-                    child,
-                    head.children,
-                    next,
-                    m + 1,
-                );
+                let k = head.children;
+                let all = types_at(out, d - 1, src, counts, child, child, k, next, m + 1);
                 seal(out, m, head, e, all)
             }
             Open::Array { kind } => array_at(out, d - 1, src, counts, kind, e, m),
