@@ -3,7 +3,7 @@
 use Prim.Native.Nat.{ℕ, zero, suc, _+_, _-_, _<_, _≤_}
 use mathlib.Core.Path.{_≡_, refl, sym, ap, _∙_, subst}
 use mathlib.Core.List.{List, [], _∷_}
-use mathlib.Core.Bool.{Bool, true, false, cond, _&&_}
+use mathlib.Core.Bool.{Bool, true, false, cond}
 use native.Mathlib.Omega.{arith}
 use native.Mathlib.Numerals.{add-one}
 use lib.ListN.{length, take, drop, length-drop}
@@ -11,13 +11,11 @@ use lib.Seq.{drop-cons, length-take-le}
 use lib.Dec.{ltb, leb}
 use borrow.Author.Tests.{leb-true, ltb-false}
 use Rattle.number.specs.Number.{Bytes, limit, encode, numberAt}
-use Rattle.number.specs.Checked.{checked, checkedAt, countAt}
-use Rattle.number.specs.Checked.{countOf as number-countOf}
-use Rattle.number.specs.declared.Number.{Number}
-use Rattle.number.specs.declared.Number.the-variants.{Value, Cut, BadByte, TooLong}
+use Rattle.number.specs.Checked.{checkedAt, countAt}
 use Rattle.number.specs.declared.checked.Checked.{Checked}
 use Rattle.number.specs.declared.checked.Checked.the-variants.{Good, Bad}
 use Rattle.number.proofs.Laws.{decoded, onward}
+use Rattle.number.proofs.Checks.{checked-good, count-good}
 use Rattle.number.proofs.Stands.{Stands, nothing, byte, join, all-of}
 use Rattle.grammar.specs.Limits.{maxRows}
 use Rattle.register.specs.Size.{maxSize}
@@ -28,13 +26,6 @@ use Rattle.layout.specs.declared.Parsed.{Parsed}
 use Rattle.layout.specs.declared.Parsed.the-variants.{Refused, Accepted}
 
 -- ---- what it says of a number that it was read
-checked-good : (o : Number) (v next : ℕ) → checked o ≡ Good v next → o ≡ Value v next
-unfolding checked
-checked-good (Value x z) v next e = let a : x ≡ v = cc in let b : z ≡ next = cc in ap (λ y. Value y z) a ∙ ap (Value v) b
-checked-good Cut v next e = let z : _≡_ {A = ℕ} 0 1 = cc in absurd (omega arith)
-checked-good BadByte v next e = let z : _≡_ {A = ℕ} 0 1 = cc in absurd (omega arith)
-checked-good TooLong v next e = let z : _≡_ {A = ℕ} 0 1 = cc in absurd (omega arith)
-
 -- a number that is read, in range of an offset
 pub record Got (s : List ℕ) (at v next : ℕ) : Type 0 where
   pub small : v < limit
@@ -47,16 +38,6 @@ got s bytes at v next e =
     let n = checked-good (numberAt s at) v next e in
     let d = decoded s at v next bytes n in
     record { small = d .small; stands = d .stands; inside = onward s at v next n .1 }
-
-counted : (low high v next : ℕ) (c : Checked) → number-countOf low high c ≡ Good v next → (c ≡ Good v next) × (low ≤ v) × (v ≤ high)
-unfolding number-countOf
-counted low high v next (Good x z) e = go (leb low x) (leb x high) refl refl e
-  where
-    go : (a b : Bool) → leb low x ≡ a → leb x high ≡ b → cond (a && b) (Good x z) (Bad 4) ≡ Good v next → (Good x z ≡ Good v next) × (low ≤ v) × (v ≤ high)
-    go true true l u e = let a : x ≡ v = cc in (e, subst (λ y. low ≤ y) a (leb-true low x l), subst (λ y. y ≤ high) a (leb-true x high u))
-    go true false l u e = let z : _≡_ {A = ℕ} 0 1 = cc in absurd (omega arith)
-    go false b l u e = let z : _≡_ {A = ℕ} 0 1 = cc in absurd (omega arith)
-counted low high v next (Bad code) e = let z : _≡_ {A = ℕ} 0 1 = cc in absurd (omega arith)
 
 -- ---- what it says of a sheet that it is accepted
 followed : (c : Checked) (at : ℕ) (then : ℕ → ℕ → Parsed) (l : Layout) → follow c at then ≡ Accepted l → (v : ℕ) × (next : ℕ) × (c ≡ Good v next) × (then v next ≡ Accepted l)
@@ -172,12 +153,12 @@ module _ (s : List ℕ) (bytes : Bytes s) (size : length s ≤ maxSheet) where
   heading : (v at end : ℕ) → countOf 0 s 0 ≡ Good v at → Run (itemOf 0 s) v at end → Heading at end
   unfolding countOf itemOf countAt
   heading v at end e r =
-      let c = counted 2 2 v at (checkedAt s 0) e in
+      let c = count-good 2 2 v at (checkedAt s 0) e in
       let z : v ≡ 2 = omega (arith, c .1, c .2) in
       let t : Run (itemOf 0 s) 2 at end = subst (λ k. Run (itemOf 0 s) k at end) z r in
-      let d = counted 0 maxRows (t .0) (t .1) (checkedAt s at) (t .2) in
+      let d = count-good 0 maxRows (t .0) (t .1) (checkedAt s at) (t .2) in
       let u = t .3 in
-      let f = counted 0 maxRows (u .0) (u .1) (checkedAt s (t .1)) (u .2) in
+      let f = count-good 0 maxRows (u .0) (u .1) (checkedAt s (t .1)) (u .2) in
       record {
         defs = t .0;
         refs = u .0;
@@ -196,7 +177,7 @@ module _ (s : List ℕ) (bytes : Bytes s) (size : length s ≤ maxSheet) where
     assembled : Of s found
     unfolding countOf countAt defsOf refsOf valueOf nextOf
     assembled =
-        let c = counted 1 maxSize rows blobs (checkedAt s from) eb in
+        let c = count-good 1 maxSize rows blobs (checkedAt s from) eb in
         let defs = got s bytes at (h .defs) (h .middle) (h .first) in
         let refs = got s bytes (h .middle) (h .refs) from (h .second) in
         let gb = got s bytes from rows blobs (c .0) in

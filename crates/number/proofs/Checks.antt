@@ -1,19 +1,49 @@
--- What the checks of a number give, from facts about the numbers: one law for each way out.
+-- What the checks of a number say of it, and what they give, from facts about the numbers: one law for each way out.
 -- Assumes nothing.
 use Prim.Native.Nat.{ℕ, _+_, _/_, _%_, _≤_, _<_}
-use mathlib.Core.Path.{_≡_, sym}
+use mathlib.Core.Path.{_≡_, refl, sym, ap, subst, _∙_}
+use mathlib.Core.Bool.{Bool, true, false, cond, _&&_}
 use mathlib.Core.List.{List}
 use lib.ListN.{length, getD}
+use lib.Dec.{leb}
 use native.Mathlib.Omega.{arith}
-use borrow.Author.Tests.{le-leb, lt-leb, lt-ltb, le-ltb}
+use borrow.Author.Tests.{leb-true, le-leb, lt-leb, lt-ltb, le-ltb}
 use Rattle.number.specs.Number.{numberAt}
 use Rattle.number.specs.Checked.{checked, checkedAt, countOf, countAt}
 use Rattle.number.specs.Token.{rowsOf, tokenOf, tokenAt}
 use Rattle.number.specs.declared.Number.{Number}
+use Rattle.number.specs.declared.Number.the-variants.{Value, Cut, BadByte, TooLong}
 use Rattle.number.specs.declared.checked.Checked.{Checked}
 use Rattle.number.specs.declared.checked.Checked.the-variants.{Good, Bad}
 use Rattle.number.specs.declared.token.Counts.{Counts}
 use Rattle.number.proofs.Cases.{one-byte}
+use Rattle.number.proofs.Laws.{onward}
+
+-- ---- what it says of a number that it passed
+
+pub checked-good : (o : Number) (v next : ℕ) → checked o ≡ Good v next → o ≡ Value v next
+unfolding checked
+checked-good (Value x z) v next e = let a : x ≡ v = cc in let b : z ≡ next = cc in ap (λ y. Value y z) a ∙ ap (Value v) b
+checked-good Cut v next e = let z : _≡_ {A = ℕ} 0 1 = cc in absurd (omega arith)
+checked-good BadByte v next e = let z : _≡_ {A = ℕ} 0 1 = cc in absurd (omega arith)
+checked-good TooLong v next e = let z : _≡_ {A = ℕ} 0 1 = cc in absurd (omega arith)
+
+-- it ends past its start and within the list
+pub checked-onward : (s : List ℕ) (at v next : ℕ) → checkedAt s at ≡ Good v next → (at < next) × (next ≤ length s)
+unfolding checkedAt
+checked-onward s at v next e = onward s at v next (checked-good (numberAt s at) v next e)
+
+pub count-good : (low high v next : ℕ) (c : Checked) → countOf low high c ≡ Good v next → (c ≡ Good v next) × (low ≤ v) × (v ≤ high)
+unfolding countOf
+count-good low high v next (Good x z) e = go (leb low x) (leb x high) refl refl e
+  where
+    go : (a b : Bool) → leb low x ≡ a → leb x high ≡ b → cond (a && b) (Good x z) (Bad 4) ≡ Good v next → (Good x z ≡ Good v next) × (low ≤ v) × (v ≤ high)
+    go true true l u e = let a : x ≡ v = cc in (e, subst (λ y. low ≤ y) a (leb-true low x l), subst (λ y. y ≤ high) a (leb-true x high u))
+    go true false l u e = let z : _≡_ {A = ℕ} 0 1 = cc in absurd (omega arith)
+    go false b l u e = let z : _≡_ {A = ℕ} 0 1 = cc in absurd (omega arith)
+count-good low high v next (Bad code) e = let z : _≡_ {A = ℕ} 0 1 = cc in absurd (omega arith)
+
+-- ---- the ways out
 
 module _ (s : List ℕ) (at : ℕ) where
   -- what a number is checked to, by the number

@@ -3,19 +3,17 @@
 use Prim.Native.Nat.{ℕ, _+_, _≤_, _<_}
 use native.Mathlib.Omega.{arith}
 use mathlib.Core.Path.{_≡_, refl, sym, ap, _∙_}
-use mathlib.Core.Bool.{Bool, true, false, cond, _&&_}
+use mathlib.Core.Bool.{Bool, true, false, cond}
 use mathlib.Core.List.{List}
 use lib.ListN.{length, getD}
-use lib.Dec.{leb}
-use borrow.Author.Tests.{lt-ltb, le-ltb, le-leb, leb-true}
+use borrow.Author.Tests.{lt-ltb, le-ltb, le-leb}
 use Rattle.number.specs.Number.{Bytes, limit, numberAt}
-use Rattle.number.specs.Checked.{checked, checkedAt, countOf, countAt}
-use Rattle.number.specs.declared.Number.{Number}
-use Rattle.number.specs.declared.Number.the-variants.{Value, Cut, BadByte, TooLong}
+use Rattle.number.specs.Checked.{checkedAt, countAt}
 use Rattle.number.specs.declared.checked.Checked.{Checked}
 use Rattle.number.specs.declared.checked.Checked.the-variants.{Good, Bad}
 use Rattle.number.specs.declared.token.Counts.{Counts}
-use Rattle.number.proofs.Laws.{decoded, onward}
+use Rattle.number.proofs.Laws.{decoded}
+use Rattle.number.proofs.Checks.{checked-good, checked-onward, count-good}
 use Rattle.element.specs.Element.{within, allowed, formOf}
 use Rattle.element.specs.Decided.{leadFormOf, plain}
 use Rattle.element.specs.declared.Place.{Place}
@@ -25,7 +23,6 @@ use Rattle.element.specs.declared.Form.the-variants.{Refused, Leaf, Named, Vari
 use Rattle.element.proofs.Runs.{inside, outside, in-plain}
 use Rattle.grammar.specs.Limits.{maxNodes}
 use Rattle.grammar.specs.Table.{kindOf}
-use Rattle.grammar.proofs.Sound.{both-right}
 use Rattle.reader.specs.Open.{codeOf, codeAt, opening, instanceOf, headOf, openOf, openCode, leading, leadForm, leadOf}
 use Rattle.reader.specs.Walk.{called}
 use Rattle.reader.specs.declared.open.Code.{Code}
@@ -56,38 +53,17 @@ module _ (y x : Checked) (from : ℕ) (e : y ≡ x) where
 
 -- a number that was read is below 2^29
 pub small : (s : List ℕ) (at v next : ℕ) (y : Checked) → Bytes s → y ≡ checkedAt s at → y ≡ Good v next → v < limit
-unfolding checkedAt checked
-small s at v next y bytes e g = go (numberAt s at) refl (sym e ∙ g)
-  where
-    go : (o : Number) → numberAt s at ≡ o → checked o ≡ Good v next → v < limit
-    go (Value x z) q h = let a : x ≡ v = cc in let b = decoded s at x z bytes q .small in omega arith
-    go Cut q h = let z : _≡_ {A = ℕ} 0 1 = cc in absurd (omega arith)
-    go BadByte q h = let z : _≡_ {A = ℕ} 0 1 = cc in absurd (omega arith)
-    go TooLong q h = let z : _≡_ {A = ℕ} 0 1 = cc in absurd (omega arith)
+unfolding checkedAt
+small s at v next y bytes e g = decoded s at v next bytes (checked-good (numberAt s at) v next (sym e ∙ g)) .small
 
 -- a number that was read begins within the bytes
 pub number-here : (s : List ℕ) (at v next : ℕ) (y : Checked) → y ≡ checkedAt s at → y ≡ Good v next → at < length s
-unfolding checkedAt checked
-number-here s at v next y e g = go (numberAt s at) refl (sym e ∙ g)
-  where
-    go : (o : Number) → numberAt s at ≡ o → checked o ≡ Good v next → at < length s
-    go (Value x z) q h = let k = onward s at x z q in omega arith
-    go Cut q h = let z : _≡_ {A = ℕ} 0 1 = cc in absurd (omega arith)
-    go BadByte q h = let z : _≡_ {A = ℕ} 0 1 = cc in absurd (omega arith)
-    go TooLong q h = let z : _≡_ {A = ℕ} 0 1 = cc in absurd (omega arith)
+number-here s at v next y e g = let k = checked-onward s at v next (sym e ∙ g) in omega arith
 
 -- a count is at most what it may be
 pub count-most : (low high : ℕ) (s : List ℕ) (at v next : ℕ) (y : Checked) → y ≡ countAt low high s at → y ≡ Good v next → v ≤ high
-unfolding countAt countOf
-count-most low high s at v next y e g = go (checkedAt s at) (sym e ∙ g)
-  where
-    inner : (x z : ℕ) (t : Bool) → (t ≡ true → x ≤ high) → cond t (Good x z) (Bad 4) ≡ Good v next → v ≤ high
-    inner x z true f h = let a : x ≡ v = cc in let b = f refl in omega arith
-    inner x z false f h = let z : _≡_ {A = ℕ} 0 1 = cc in absurd (omega arith)
-
-    go : (o : Checked) → countOf low high o ≡ Good v next → v ≤ high
-    go (Good x z) h = inner x z (leb low x && leb x high) (λ q. leb-true x high (both-right (leb low x) _ q)) h
-    go (Bad c) h = let z : _≡_ {A = ℕ} 0 1 = cc in absurd (omega arith)
+unfolding countAt
+count-most low high s at v next y e g = count-good low high v next (checkedAt s at) (sym e ∙ g) .2
 
 -- ---- code_of and code_at
 

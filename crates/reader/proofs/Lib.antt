@@ -4,4 +4,5 @@ pub mod Laws
 pub mod Steps
 pub mod Heads
 pub mod Passes
+pub mod Tables
 pub mod Theorems

@@ -7,6 +7,7 @@ ghost use Rattle.reader.specs.Answer.{answerOf, tableOf};
 use number::token::Counts;
 
 mod open;
+pub mod table;
 mod walk;
 
 // The panel's number and its place: 0 with the number of nodes, or a refusal.

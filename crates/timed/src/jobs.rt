@@ -1,5 +1,5 @@
 // The jobs that are timed.
-use number::Number;
+use number::checked::Checked;
 use register::Register;
 
 const NUMBERS: usize = 10000;
@@ -8,19 +8,17 @@ const ROUNDS: usize = 1000;
 
 const ROWS: usize = 64;
 
-// The sum of the numbers that stand one after the other in a slice.
+// The sum of the numbers that stand one after the other in a slice, by the step that the reader takes.
 fn sum_of(s: &[u8]) -> u64 {
     let mut sum: u64 = 0;
     let mut at = 0;
-    for _ in 0..NUMBERS {
-        match number::number_at(s, at) {
-            Number::Value { value, next } => {
-                sum = sum % 0x100000000 + value as u64;
+    while at < s.len() {
+        match number::checked::checked_at(s, at) {
+            Checked::Good { value, next } => {
+                sum = std::num::wrapping_add_u64(sum, value as u64);
                 at = next;
             }
-            Number::Cut => return sum,
-            Number::BadByte => return sum,
-            Number::TooLong => return sum,
+            Checked::Bad { code: _ } => return sum,
         }
     }
     sum

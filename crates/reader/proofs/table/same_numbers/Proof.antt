@@ -1,4 +1,4 @@
--- `writer::same_numbers` meets its contract. Assumes nothing.
+-- `reader::table::same_numbers` meets its contract. Assumes nothing.
 use borrow.Author.Needs.{needs}
 use Prim.Native.Nat.{_≤_, _-_}
 use mathlib.Core.Path.{_≡_, refl, _∙_}
@@ -6,9 +6,9 @@ use mathlib.Core.Bool.{_&&_}
 use mathlib.Core.Logic.{⊎-elim}
 use lib.ListN.{length, drop}
 use Rattle.grammar.specs.Writer.{same}
-use Rattle.writer.proofs.Lists.{same-lengths, same-differ, same-step, same-end}
-use Rattle.writer.proofs.same_numbers.Statement.{statement}
-use Rattle.writer.proofs.same_numbers.Tie as tie
+use Rattle.reader.proofs.Tables.{same-lengths, same-differ, same-step, same-end}
+use Rattle.reader.proofs.table.same_numbers.Statement.{statement}
+use Rattle.reader.proofs.table.same_numbers.Tie as tie
 
 abbrev Inv-loop : tie.InvT-loop
 Inv-loop a b equal₀ i₀ equal i = (length a ≡ length b) × (i ≤ length a) × ((equal && same (drop i a) (drop i b)) ≡ same a b)
