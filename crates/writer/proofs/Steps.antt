@@ -47,10 +47,10 @@ module _ (r : Node) where
   front-bound h i a b c d = either (r .a ∷ []) 0x104 (r .kind) refl (λ f. let e : r .kind ≡ 0x105 = omega arith in rw e)
 
   -- a kind that has no layout of its own, or is an ARRAY's
-  pub front-plain : (r .kind ≡ 0x15 → ⊥) → (0x11 ≤ r .kind → r .kind < 0x14 → ⊥) → (0x1E ≤ r .kind → r .kind < 0x21 → ⊥) → (0x100 ≤ r .kind → r .kind < 0x106 → ⊥)
+  pub front-plain : (r .kind ≡ 0x15 → ⊥) → (0x11 ≤ r .kind → r .kind < 0x14 → ⊥) × (0x1E ≤ r .kind → r .kind < 0x21 → ⊥) × (0x100 ≤ r .kind → r .kind < 0x106 → ⊥)
       → Front (r .kind ∷ []) (r .kind)
   unfolding frontOf layoutOf
-  front-plain a f g h =
+  front-plain a (f, g, h) =
       rw (
         ne-eqb (r .kind) 0x11 (λ e. f (omega arith) (omega arith)),
         ne-eqb (r .kind) 0x12 (λ e. f (omega arith) (omega arith)),

@@ -142,7 +142,7 @@ fn array_at(out: &mut [u8], d: usize, table: &[u32], node: Node, at: usize, n: u
     }
 }
 
-// `count` subtrees one after the other.
+// `count` subtrees one after the other; none from an offset past the end on.
 pub fn all_at(out: &mut [u8], d: usize, table: &[u32], count: u32, at: usize, n: usize) -> Emit
     requires { ⌜ n ≤ length (now table) ⌝ }
     ensures { λ r. ⌜ Emits (times (emit d (now (table .entry))) count n) at r (now (out .entry)) (now (out .exit)) ⌝ }

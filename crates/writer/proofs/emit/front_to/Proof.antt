@@ -1,7 +1,7 @@
 -- `writer::emit::front_to` meets its contract. Assumes nothing.
 use borrow.Author.Needs.{needs}
 use native.Mathlib.Omega.{arith}
-use mathlib.Core.Path.{_≡_, refl}
+use mathlib.Core.Path.{refl}
 use mathlib.Core.Logic.{⊎-elim, inl, inr}
 use Rattle.grammar.specs.Emit.{layoutOf}
 use Rattle.writer.specs.Emission.{frontOf}
@@ -36,4 +36,4 @@ front-to-spec =
     (λ c. search needs)
     (λ c. let r = c .before .before .before .before .before .before .before .before .args .node in spelt-front r (r .kind) refl (⊎-elim (λ e. front-three r _ 0x11 refl refl refl (omega arith) (omega arith)) (λ e. front-three r _ 0x1E refl refl refl (omega arith) (omega arith)) (c .before .before .before .before .if2 .came)) (c .before .before .pair-to4 .ensures))
     (λ c. search needs)
-    (λ c. let r = c .before .before .before .before .before .before .before .args .node in spelt-front r (r .kind) refl (front-plain r (c .before .before .before .before .before .match .rest .0 .0 .0 .1) (λ l u. ⊎-elim (λ e. omega arith) (⊎-elim (λ e. omega arith) (⊎-elim (λ e. omega arith) (λ e. omega arith))) (c .before .before .before .before .if1 .came)) (λ l u. ⊎-elim (λ e. omega arith) (⊎-elim (λ e. omega arith) (⊎-elim (λ e. omega arith) (λ e. omega arith))) (c .before .before .before .before .if1 .came)) (λ l u. ⊎-elim (λ e. omega arith) (⊎-elim (λ e. omega arith) (⊎-elim (λ e. omega arith) (λ e. omega arith))) (c .before .before .before .before .if1 .came))) (c .before .before .number-to3 .ensures)))
+    (λ c. let r = c .before .before .before .before .before .before .before .args .node in spelt-front r (r .kind) refl (front-plain r (c .before .before .before .before .before .match .rest .0 .0 .0 .1) (⊎-elim (λ e. omega arith) (⊎-elim (λ e. omega arith) (⊎-elim (λ e. omega arith) (λ e. omega arith))) (c .before .before .before .before .if1 .came))) (c .before .before .number-to3 .ensures)))
