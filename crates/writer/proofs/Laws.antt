@@ -4,7 +4,7 @@ use Prim.Native.Nat.{ℕ, zero, suc, _+_, _-_, _≤_, _<_}
 use native.Mathlib.Omega.{arith}
 use mathlib.Core.Path.{_≡_, refl, sym, ap, subst, _∙_}
 use mathlib.Core.Bool.{Bool, true, false, cond}
-use mathlib.Core.List.{List, [], _∷_, _++_, append-assoc}
+use mathlib.Core.List.{List, [], _∷_, _++_, append-assoc, append-nil}
 use lib.ListN.{length, set, length-append}
 use lib.Seq.{sets, length-sets}
 use lib.Dec.{leb}
@@ -12,7 +12,7 @@ use borrow.Author.Tests.{leb-true, leb-false, le-leb, lt-leb}
 use Rattle.number.specs.Number.{encode, putAt}
 use Rattle.number.proofs.Encoding.{put-fits}
 use Rattle.grammar.specs.Emit.{Emitted, torn, wrote, andThen, spell, times}
-use Rattle.writer.specs.Emission.{followed, resultOf, leavesOf, Emits}
+use Rattle.writer.specs.Emission.{spelled, Spelt, put, cut, followed, resultOf, leavesOf, Emits}
 use Rattle.writer.specs.declared.emit.Emit.{Emit}
 use Rattle.writer.specs.declared.emit.Emit.the-variants.{Next, Stop}
 
@@ -103,17 +103,10 @@ emits-is e q at r o o₁ x h = rw x h
 pub found : (e : Emitted) (at : ℕ) (w v : Emit) (o o₁ : List ℕ) → w ≡ v → Emits e at w o o₁ → Emits e at v o o₁
 found e at w v o o₁ x h = subst (λ (y : Emit). Emits e at y o o₁) x h
 
--- ---- one number
-
-pub number-stop : (v at n : ℕ) (o : List ℕ) → length o < at + length (encode v) → Emits (wrote (encode v) n) at Stop o o
-number-stop v at n o h = emits-over (encode v) n at o o h refl
-
-pub number-next : (v at n e : ℕ) (o o₁ : List ℕ) → at + length (encode v) ≤ length o → e ≡ at + length (encode v) → o₁ ≡ putAt o at (encode v)
-    → Emits (wrote (encode v) n) at (Next e n) o o₁
-unfolding leavesOf
-number-next v at n e o o₁ h x p =
-    let q : o₁ ≡ sets o at (encode v) = p ∙ sym (put-fits o at (encode v) h) in
-    record { result = ap (λ (i : ℕ). Next i n) x ∙ result-fits (encode v) n at (length o) h; left = λ _. q; kept = ap length q ∙ length-sets o at (encode v) }
+-- past the end of the buffer nothing is emitted
+pub emits-past : (q : Emitted) (at : ℕ) (o : List ℕ) → length o < at → Emits q at Stop o o
+emits-past torn at o h = emits-torn at o
+emits-past (wrote bs n) at o h = emits-over bs n at o o (omega arith) refl
 
 -- ---- numbers in a row
 
@@ -121,6 +114,63 @@ pub spell-rest : (vs rest : List ℕ) → spell vs rest ≡ spell vs [] ++ rest
 unfolding spell
 spell-rest [] rest = refl
 spell-rest (v ∷ vs) rest = ap (λ (l : List ℕ). encode v ++ l) (spell-rest vs rest) ∙ sym (append-assoc (encode v) (spell vs []) rest)
+
+spell-append : (vs ws : List ℕ) → spell (vs ++ ws) [] ≡ spell vs [] ++ spell ws []
+unfolding spell
+spell-append [] ws = refl
+spell-append (v ∷ vs) ws = ap (λ (l : List ℕ). encode v ++ l) (spell-append vs ws) ∙ sym (append-assoc (encode v) (spell vs []) (spell ws []))
+
+module _ (v at : ℕ) (o : List ℕ) where
+  one : spell (v ∷ []) [] ≡ encode v
+  unfolding spell
+  one = append-nil (encode v)
+
+  pub number-cut : (r : ℕ) → length o < at + length (encode v) → r ≡ length o + 1 → Spelt (v ∷ []) at r o o
+  number-cut r h e = cut (rw one h) e refl
+
+  pub number-put : (r : ℕ) (o₁ : List ℕ) → at + length (encode v) ≤ length o → r ≡ at + length (encode v) → o₁ ≡ putAt o at (encode v) → Spelt (v ∷ []) at r o o₁
+  number-put r o₁ h e p = put (rw one h) (rw one e) (rw one (p ∙ sym (put-fits o at (encode v) h)))
+
+module _ {vs : List ℕ} {at e : ℕ} {o o₁ : List ℕ} where
+  spelt-kept : Spelt vs at e o o₁ → length o₁ ≡ length o
+  spelt-kept (put h i j) = ap length j ∙ length-sets o at (spell vs [])
+  spelt-kept (cut h i j) = j
+
+  pub spelt-is : {ws : List ℕ} → vs ≡ ws → Spelt vs at e o o₁ → Spelt ws at e o o₁
+  spelt-is x y = subst (λ (l : List ℕ). Spelt l at e o o₁) x y
+
+  pub spelt-more : {ws : List ℕ} {r : ℕ} {o₂ : List ℕ} → Spelt vs at e o o₁ → Spelt ws e r o₁ o₂ → Spelt (vs ++ ws) at r o o₂
+  spelt-more {ws} {r} {o₂} x y = go x y
+    where
+      long : length (spell (vs ++ ws) []) ≡ length (spell vs []) + length (spell ws [])
+      long = ap length (spell-append vs ws) ∙ length-append (spell vs []) (spell ws [])
+
+      go : Spelt vs at e o o₁ → Spelt ws e r o₁ o₂ → Spelt (vs ++ ws) at r o o₂
+      go (put h i j) (put f g k) =
+          put (omega (arith, long, spelt-kept x)) (omega (arith, long))
+          (k ∙ rw (i, j) (sets-append (spell vs []) (spell ws []) o at) ∙ sym (ap (sets o at) (spell-append vs ws)))
+      go (put h i j) (cut f g k) = cut (omega (arith, long, spelt-kept x)) (g ∙ ap (λ (l : ℕ). l + 1) (spelt-kept x)) (k ∙ spelt-kept x)
+      go (cut h i j) (put f g k) = absurd (omega arith)
+      go (cut h i j) (cut f g k) = cut (omega (arith, long)) (g ∙ ap (λ (l : ℕ). l + 1) j) (k ∙ j)
+
+  -- numbers, and then what was emitted from the offset that they gave
+  pub spelt-then : (k : ℕ → Emitted) (n : ℕ) {r : Emit} {o₂ : List ℕ} → Spelt vs at e o o₁ → Emits (k n) e r o₁ o₂ → Emits (followed (spelled vs n) k) at r o o₂
+  unfolding followed resultOf leavesOf
+  spelt-then k n {r} {o₂} x y = go x
+    where
+      over-end : (q : Emitted) → length o < at + length (spell vs []) → e ≡ length o + 1 → length o₁ ≡ length o → Emits q e r o₁ o₂
+          → Emits (andThen q (λ cs m. wrote (spell vs [] ++ cs) m)) at r o o₂
+      over-end torn h i j z = record { result = z .result; left = tt; kept = z .kept ∙ j }
+      over-end (wrote cs m) h i j z = by-fit (fit cs m e (length o₁) r (z .result))
+        where
+          by-fit : Fit cs e (length o₁) r (Next (e + length cs) m) → Emits (wrote (spell vs [] ++ cs) m) at r o o₂
+          by-fit (fits g w) = absurd (omega arith)
+          by-fit (over g w) =
+              found _ at Stop r o o₂ (sym w) (emits-over (spell vs [] ++ cs) m at o o₂ (omega (arith, length-append (spell vs []) cs)) (z .kept ∙ j))
+
+      go : Spelt vs at e o o₁ → Emits (followed (spelled vs n) k) at r o o₂
+      go (put h i j) = emits-after (k n) (spell vs []) at r o o₁ o₂ (spelt-kept x) j (rw i at y)
+      go (cut h i j) = over-end (k n) h i j y
 
 -- an emission that went on ended inside the buffer
 pub next-within : (q : Emitted) (at e n : ℕ) (o o₁ : List ℕ) → Emits q at (Next e n) o o₁ → e ≤ length o₁
@@ -142,6 +192,14 @@ times-more item (suc k) m h = let z : suc k - 1 ≡ k = omega arith in rw z (go 
     go : (q : Emitted) → andThen q (λ bs n₁. andThen (times item k n₁) (λ cs n₂. wrote (bs ++ cs) n₂)) ≡ followed q (times item k)
     go torn = refl
     go (wrote bs n) = refl
+
+pub times-one : (item : ℕ → Emitted) (n : ℕ) → times item 1 n ≡ item n
+unfolding times
+times-one item n = go (item n)
+  where
+    go : (q : Emitted) → andThen q (λ bs n₁. andThen (wrote [] n₁) (λ cs n₂. wrote (bs ++ cs) n₂)) ≡ q
+    go torn = refl
+    go (wrote bs m) = ap (λ (l : List ℕ). wrote l m) (append-nil bs)
 
 module _ (item : ℕ → Emitted) (left e m : ℕ) (w : Emit) (o o₁ : List ℕ) (h : 0 < left) (x : Emits (item m) e w o o₁) where
   pub loop-stop : w ≡ Stop → Emits (times item left m) e Stop o o₁

@@ -1,25 +1,22 @@
 -- Each way through a function that emits, as one law over plain values. A need cites one of them, with `_` for what the goal shows.
 -- Assumes nothing.
-use Prim.Native.Nat.{ℕ, zero, suc, _+_, _-_, _/_, _≤_, _<_}
+use Prim.Native.Nat.{ℕ, zero, suc, _+_, _-_, _*_, _/_, _≤_, _<_}
 use native.Mathlib.Omega.{arith}
-use mathlib.Core.Path.{_≡_, refl, sym, ap, _∙_}
-use mathlib.Core.Bool.{Bool, true, false, cond, _&&_}
+use mathlib.Core.Path.{_≡_, refl, sym, ap, subst, _∙_}
+use mathlib.Core.Bool.{Bool, true, false, cond}
 use mathlib.Core.List.{List, [], _∷_, _++_, append-assoc, append-nil}
 use lib.ListN.{length}
-use lib.Dec.{ltb, leb, eqb}
-use borrow.Author.Tests.{ltb-true, eqb-true, lt-ltb, le-ltb, le-leb, lt-leb, eq-eqb, ne-eqb}
-use Rattle.number.specs.Number.{encode}
+use lib.Dec.{leb, eqb}
+use borrow.Author.Tests.{leb-false, eqb-true, eqb-false, le-leb, lt-leb, eq-eqb, ne-eqb}
 use Rattle.grammar.specs.Table.{recordAt}
 use Rattle.grammar.specs.Emit.{Layout, plain, array, callable, layouts, layoutIn, layoutOf, lowsOf, partsOf, Emitted, torn, wrote, andThen, spell, times, parts, emit}
 use Rattle.grammar.specs.declared.Node.{Node}
-use Rattle.writer.specs.Emission.{numbersOf, frontOf, leaf, spelled, followed, Emits}
+use Rattle.writer.specs.Emission.{frontOf, spelled, Spelt, followed, resultOf, Emits}
 use Rattle.writer.specs.declared.emit.Emit.{Emit}
 use Rattle.writer.specs.declared.emit.Emit.the-variants.{Next, Stop}
-use Rattle.writer.specs.declared.emit.Front.{Front}
-use Rattle.writer.specs.declared.emit.Front.the-variants.{Single, Pair, Triple, Quad}
-use Rattle.writer.proofs.Laws.{emits-torn, emits-stop, emits-next, emits-is, found, spell-rest}
+use Rattle.writer.proofs.Laws.{clash, Fit, fits, over, fit, emits-torn, emits-stop, emits-next, emits-is, found, spell-rest, spelt-is, spelt-then}
 
--- ---- call_front and front_of
+-- ---- call_to and front_to
 
 pub call-plain : (r : Node) (k : ℕ) → r .a ≡ 0 → k ≡ r .children - 1 → r .b ∷ k ∷ [] ≡ frontOf callable r
 unfolding frontOf
@@ -29,101 +26,55 @@ pub call-generic : (r : Node) (k : ℕ) → (r .a ≡ 0 → ⊥) → k ≡ r .ch
 unfolding frontOf
 call-generic r k h e = rw (ne-eqb (r .a) 0 h, e)
 
--- a kind that has no layout of its own
-pub front-rest : (r : Node) → (r .kind ≡ 0x11 → ⊥) → (r .kind ≡ 0x12 → ⊥) → (r .kind ≡ 0x13 → ⊥) → (r .kind ≡ 0x15 → ⊥) → (r .kind ≡ 0x1E → ⊥) → (r .kind ≡ 0x1F → ⊥)
-    → (r .kind ≡ 0x20 → ⊥) → (r .kind ≡ 0x100 → ⊥) → (r .kind ≡ 0x101 → ⊥) → (r .kind ≡ 0x102 → ⊥) → (r .kind ≡ 0x103 → ⊥) → (r .kind ≡ 0x104 → ⊥)
-    → (r .kind ≡ 0x105 → ⊥) → r .kind ∷ [] ≡ frontOf (layoutOf (r .kind)) r
-unfolding frontOf layoutOf
-front-rest r a b c d e f g h i j k l m =
-    rw (
-      ne-eqb (r .kind) 0x11 a,
-      ne-eqb (r .kind) 0x12 b,
-      ne-eqb (r .kind) 0x13 c,
-      ne-eqb (r .kind) 0x15 d,
-      ne-eqb (r .kind) 0x1E e,
-      ne-eqb (r .kind) 0x1F f,
-      ne-eqb (r .kind) 0x20 g,
-      ne-eqb (r .kind) 0x100 h,
-      ne-eqb (r .kind) 0x101 i,
-      ne-eqb (r .kind) 0x102 j,
-      ne-eqb (r .kind) 0x103 k,
-      ne-eqb (r .kind) 0x104 l,
-      ne-eqb (r .kind) 0x105 m,
-    )
-    (go (eqb (r .kind) 0x14))
-  where
-    go : (b : Bool) → r .kind ∷ [] ≡ frontOf (cond b array plain) r
-    go true = refl
-    go false = refl
+module _ (r : Node) where
+  abbrev Front : List ℕ → ℕ → Type 0
+  Front vs k = vs ≡ frontOf (layoutOf k) r
 
--- ---- leaves
+  either : (vs : List ℕ) (j k : ℕ) → Front vs j → ((k ≡ j → ⊥) → Front vs k) → Front vs k
+  either vs j k x f = go (eqb k j) refl
+    where
+      go : (b : Bool) → eqb k j ≡ b → Front vs k
+      go true e = subst (Front vs) (sym (eqb-true k j e)) x
+      go false e = f (eqb-false k j e)
 
-pub leaf-low : (r : Node) → r .kind < 0x11 → eqb (r .children) 0 ≡ leaf r
-unfolding leaf
-leaf-low r h = rw (lt-ltb (r .kind) 0x11 h)
+  -- three kinds in a row
+  pub front-three : (vs : List ℕ) (j : ℕ) → Front vs j → Front vs (j + 1) → Front vs (j + 2) → j ≤ r .kind → r .kind < j + 3 → Front vs (r .kind)
+  front-three vs j x y z h i =
+      either vs j (r .kind) x (λ a. either vs (j + 1) (r .kind) y (λ b. let e : r .kind ≡ j + 2 = omega arith in subst (Front vs) (sym e) z))
 
-pub leaf-high : (r : Node) → 0x11 ≤ r .kind → false ≡ leaf r
-unfolding leaf
-leaf-high r h = rw (le-ltb (r .kind) 0x11 h)
+  pub front-bound : 0x100 ≤ r .kind → r .kind < 0x106 → (r .kind ≡ 0x100 → ⊥) → (r .kind ≡ 0x101 → ⊥) → (r .kind ≡ 0x102 → ⊥) → (r .kind ≡ 0x103 → ⊥) → Front (r .a ∷ []) (r .kind)
+  unfolding frontOf layoutOf
+  front-bound h i a b c d = either (r .a ∷ []) 0x104 (r .kind) refl (λ f. let e : r .kind ≡ 0x105 = omega arith in rw e)
 
-leaf-both : (r : Node) → leaf r ≡ true → (r .kind < 0x11) × (r .children ≡ 0)
-unfolding leaf
-leaf-both r e = go (ltb (r .kind) 0x11) refl (eqb (r .children) 0) refl e
-  where
-    go : (s : Bool) → ltb (r .kind) 0x11 ≡ s → (t : Bool) → eqb (r .children) 0 ≡ t → (s && t) ≡ true → (r .kind < 0x11) × (r .children ≡ 0)
-    go true g true h q = (ltb-true _ _ g, eqb-true _ _ h)
-    go true g false h q = let z : _≡_ {A = ℕ} 1 0 = ap (λ (b : Bool). cond b 0 1) q in absurd (omega arith)
-    go false g t h q = let z : _≡_ {A = ℕ} 1 0 = ap (λ (b : Bool). cond b 0 1) q in absurd (omega arith)
+  -- a kind that has no layout of its own, or is an ARRAY's
+  pub front-plain : (r .kind ≡ 0x15 → ⊥) → (0x11 ≤ r .kind → r .kind < 0x14 → ⊥) × (0x1E ≤ r .kind → r .kind < 0x21 → ⊥) × (0x100 ≤ r .kind → r .kind < 0x106 → ⊥)
+      → Front (r .kind ∷ []) (r .kind)
+  unfolding frontOf layoutOf
+  front-plain a (f, g, h) =
+      rw (
+        ne-eqb (r .kind) 0x11 (λ e. f (omega arith) (omega arith)),
+        ne-eqb (r .kind) 0x12 (λ e. f (omega arith) (omega arith)),
+        ne-eqb (r .kind) 0x13 (λ e. f (omega arith) (omega arith)),
+        ne-eqb (r .kind) 0x1E (λ e. g (omega arith) (omega arith)),
+        ne-eqb (r .kind) 0x1F (λ e. g (omega arith) (omega arith)),
+        ne-eqb (r .kind) 0x20 (λ e. g (omega arith) (omega arith)),
+        ne-eqb (r .kind) 0x15 a,
+        ne-eqb (r .kind) 0x100 (λ e. h (omega arith) (omega arith)),
+        ne-eqb (r .kind) 0x101 (λ e. h (omega arith) (omega arith)),
+        ne-eqb (r .kind) 0x102 (λ e. h (omega arith) (omega arith)),
+        ne-eqb (r .kind) 0x103 (λ e. h (omega arith) (omega arith)),
+        ne-eqb (r .kind) 0x104 (λ e. h (omega arith) (omega arith)),
+        ne-eqb (r .kind) 0x105 (λ e. h (omega arith) (omega arith)),
+      )
+      (go (eqb (r .kind) 0x14))
+    where
+      go : (b : Bool) → r .kind ∷ [] ≡ frontOf (cond b array plain) r
+      go true = refl
+      go false = refl
 
-front-low : (r : Node) → r .kind < 0x11 → r .kind ∷ [] ≡ frontOf (layoutOf (r .kind)) r
-front-low r h =
-    front-rest r (λ e. omega arith) (λ e. omega arith) (λ e. omega arith) (λ e. omega arith) (λ e. omega arith) (λ e. omega arith) (λ e. omega arith) (λ e. omega arith) (λ e. omega arith)
-    (λ e. omega arith) (λ e. omega arith) (λ e. omega arith) (λ e. omega arith)
-
-spell-one : (v : ℕ) → spell (v ∷ []) [] ≡ encode v
-unfolding spell
-spell-one v = append-nil (encode v)
-
--- ---- front_to
-
-abbrev pair : ℕ → ℕ → ℕ → Emitted
-pair x y n = followed (wrote (encode x) n) (wrote (encode y))
-
-module _ (f : Front) (n at : ℕ) (o : List ℕ) where
-  same-front : (v : Front) (q : Emitted) (r : Emit) (o₁ : List ℕ) → f ≡ v → spelled (numbersOf v) n ≡ q → Emits q at r o o₁ → Emits (spelled (numbersOf f) n) at r o o₁
-  same-front v q r o₁ g e h = emits-is _ q at r o o₁ (ap (λ (u : Front). spelled (numbersOf u) n) g ∙ e) h
-
-  pub front-single : (x : ℕ) (r : Emit) (o₁ : List ℕ) → f ≡ Single x → Emits (wrote (encode x) n) at r o o₁ → Emits (spelled (numbersOf f) n) at r o o₁
-  unfolding spell
-  front-single x r o₁ g h = same-front (Single x) _ r o₁ g (ap (λ (l : List ℕ). wrote l n) (append-nil (encode x))) h
-
-  pub front-pair : (x y : ℕ) (r : Emit) (o₁ : List ℕ) → f ≡ Pair x y → Emits (pair x y n) at r o o₁ → Emits (spelled (numbersOf f) n) at r o o₁
-  unfolding spell followed
-  front-pair x y r o₁ g h = same-front (Pair x y) _ r o₁ g (ap (λ (l : List ℕ). wrote (encode x ++ l) n) (append-nil (encode y))) h
-
-  module _ (x y z : ℕ) (g : f ≡ Triple x y z) (w : Emit) (o₁ : List ℕ) (h : Emits (wrote (encode x) n) at w o o₁) where
-    three : spelled (x ∷ y ∷ z ∷ []) n ≡ followed (wrote (encode x) n) (pair y z)
-    unfolding spell followed
-    three = ap (λ (l : List ℕ). wrote (encode x ++ (encode y ++ l)) n) (append-nil (encode z))
-
-    pub triple-stop : w ≡ Stop → Emits (spelled (numbersOf f) n) at Stop o o₁
-    triple-stop k = same-front (Triple x y z) _ Stop o₁ g three (emits-stop _ _ at o o₁ (found _ at w _ o o₁ k h))
-
-    pub triple-next : (e m : ℕ) (r : Emit) (o₂ : List ℕ) → w ≡ Next e m → Emits (pair y z m) e r o₁ o₂ → Emits (spelled (numbersOf f) n) at r o o₂
-    triple-next e m r o₂ k u = same-front (Triple x y z) _ r o₂ g three (emits-next _ (pair y z) at e m r o o₁ o₂ (found _ at w _ o o₁ k h) u)
-
-  module _ (x y z v : ℕ) (g : f ≡ Quad x y z v) (w : Emit) (o₁ : List ℕ) (h : Emits (pair x y n) at w o o₁) where
-    four : spelled (x ∷ y ∷ z ∷ v ∷ []) n ≡ followed (pair x y n) (pair z v)
-    unfolding spell followed
-    four =
-        ap (λ (l : List ℕ). wrote (encode x ++ (encode y ++ (encode z ++ l))) n) (append-nil (encode v))
-        ∙ sym (ap (λ (l : List ℕ). wrote l n) (append-assoc (encode x) (encode y) (encode z ++ encode v)))
-
-    pub quad-stop : w ≡ Stop → Emits (spelled (numbersOf f) n) at Stop o o₁
-    quad-stop k = same-front (Quad x y z v) _ Stop o₁ g four (emits-stop _ _ at o o₁ (found _ at w _ o o₁ k h))
-
-    pub quad-next : (e m : ℕ) (r : Emit) (o₂ : List ℕ) → w ≡ Next e m → Emits (pair z v m) e r o₁ o₂ → Emits (spelled (numbersOf f) n) at r o o₂
-    quad-next e m r o₂ k u = same-front (Quad x y z v) _ r o₂ g four (emits-next _ (pair z v) at e m r o o₁ o₂ (found _ at w _ o o₁ k h) u)
+  -- by the kind that was found
+  pub spelt-front : (k : ℕ) {vs : List ℕ} {at e : ℕ} {o o₁ : List ℕ} → r .kind ≡ k → Front vs k → Spelt vs at e o o₁ → Spelt (frontOf (layoutOf (r .kind)) r) at e o o₁
+  spelt-front k h x y = spelt-is (x ∙ ap (λ (i : ℕ). frontOf (layoutOf i) r) (sym h)) y
 
 -- ---- parts: numbers, then subtrees
 
@@ -189,40 +140,81 @@ module _ (d : ℕ) (t : List ℕ) (n at : ℕ) where
       go zero h = absurd (h refl)
       go (suc i) h = let x : suc i - 1 ≡ i = omega arith in rw x refl
 
-  pub emit-past : (o : List ℕ) → (d ≡ 0 → ⊥) → length t / 6 ≤ n → Emits (emit d t n) at Stop o o
-  emit-past o z h = emits-is (emit d t n) torn at Stop o o (body z ∙ rw (le-leb _ _ h)) (emits-torn at o)
+  pub emit-past : (o : List ℕ) → (d ≡ 0 → ⊥) → length t < 6 * n + 6 → Emits (emit d t n) at Stop o o
+  emit-past o z h = let i : length t / 6 ≤ n = omega arith in emits-is (emit d t n) torn at Stop o o (body z ∙ rw (le-leb _ _ i)) (emits-torn at o)
 
-  module _ (z : d ≡ 0 → ⊥) (h : n < length t / 6) (node : Node) (e : node ≡ recordAt t n) (r : Emit) (o o₁ : List ℕ) where
+  module _ (z : d ≡ 0 → ⊥) (h : 6 * n + 6 ≤ length t) (node : Node) (e : node ≡ recordAt t n) (r : Emit) (o o₁ : List ℕ) where
     inside : emit d t n ≡ parts (emit (d - 1) t) (partsOf (layoutOf (node .kind)) node) (n + 1)
-    inside = body z ∙ rw (lt-leb _ _ h, e)
+    inside = let i : n < length t / 6 = omega arith in body z ∙ rw (lt-leb _ _ i, e)
 
     pub emit-array : node .kind ≡ 0x14 → Emits (parts (emit (d - 1) t) (partsOf array node) (n + 1)) at r o o₁ → Emits (emit d t n) at r o o₁
     unfolding layoutOf
     emit-array k x = emits-is _ _ at r o o₁ (inside ∙ ap (λ (i : ℕ). parts (emit (d - 1) t) (partsOf (layoutOf i) node) (n + 1)) k) x
 
-    pub emit-part : (f : Front) → (node .kind ≡ 0x14 → ⊥) → numbersOf f ≡ frontOf (layoutOf (node .kind)) node
-        → Emits (followed (spelled (numbersOf f) (n + 1)) (times (emit (d - 1) t) (node .children))) at r o o₁ → Emits (emit d t n) at r o o₁
+    -- f: the offset after the numbers, s: the buffer with them
+    pub emit-part : (f : ℕ) (s : List ℕ) → (node .kind ≡ 0x14 → ⊥) → Spelt (frontOf (layoutOf (node .kind)) node) at f o s
+        → Emits (times (emit (d - 1) t) (node .children) (n + 1)) f r s o₁ → Emits (emit d t n) at r o o₁
     unfolding layoutOf one-part OnePart
-    emit-part f k g x =
+    emit-part f s k x y =
         emits-is _ _ at r o o₁
         (inside
         ∙ ap (λ (ps : List (List ℕ × ℕ)). parts (emit (d - 1) t) ps (n + 1)) (one-in layouts (node .kind) k layouts-one node)
-        ∙ parts-one (emit (d - 1) t) (frontOf (layoutOf (node .kind)) node) (node .children) (n + 1)
-        ∙ ap (λ (vs : List ℕ). followed (spelled vs (n + 1)) (times (emit (d - 1) t) (node .children))) (sym g))
-        x
+        ∙ parts-one (emit (d - 1) t) (frontOf (layoutOf (node .kind)) node) (node .children) (n + 1))
+        (spelt-then _ _ x y)
 
-    pub emit-leaf : leaf node ≡ true → Emits (wrote (encode (node .kind)) (n + 1)) at r o o₁ → Emits (emit d t n) at r o o₁
-    unfolding times followed
-    emit-leaf k x =
-        let i : node .kind < 0x11 = leaf-both node k .0 in
-        let j : node .children ≡ 0 = leaf-both node k .1 in
-        let u : followed (spelled (node .kind ∷ []) (n + 1)) (times (emit (d - 1) t) (node .children)) ≡ wrote (encode (node .kind)) (n + 1) =
-        ap (λ (c : ℕ). followed (spelled (node .kind ∷ []) (n + 1)) (times (emit (d - 1) t) c)) j
-        ∙ ap (λ (l : List ℕ). wrote (l ++ []) (n + 1)) (spell-one (node .kind))
-        ∙ ap (λ (l : List ℕ). wrote l (n + 1)) (append-nil (encode (node .kind))) in
-        emit-part (Single (node .kind)) (λ e. omega arith) (front-low node i) (emits-is _ _ at r o o₁ u x)
+-- ---- an emission from a record of the table, or from its end, ends at one
 
--- array_at: P is a part's emission
+abbrev Within : ℕ → Emitted → Type 0
+Within k torn = Unit {0}
+Within k (wrote bs m) = m ≤ k
+
+module _ (k : ℕ) (item : ℕ → Emitted) (f : (n : ℕ) → n ≤ k → Within k (item n)) where
+  after : (q : Emitted) (g : ℕ → Emitted) (h : List ℕ → List ℕ → List ℕ) → Within k q → ((n : ℕ) → n ≤ k → Within k (g n))
+      → Within k (andThen q (λ bs n₁. andThen (g n₁) (λ cs n₂. wrote (h bs cs) n₂)))
+  after torn g h x y = tt
+  after (wrote bs m) g h x y = go (g m) (y m x)
+    where
+      go : (q : Emitted) → Within k q → Within k (andThen q (λ cs n₂. wrote (h bs cs) n₂))
+      go torn z = tt
+      go (wrote cs j) z = z
+
+  times-within : (c n : ℕ) → n ≤ k → Within k (times item c n)
+  unfolding times
+  times-within zero n h = h
+  times-within (suc c) n h = after (item n) (times item c) _ (f n h) (times-within c)
+
+  parts-within : (ps : List (List ℕ × ℕ)) (n : ℕ) → n ≤ k → Within k (parts item ps n)
+  unfolding parts
+  parts-within [] n h = h
+  parts-within (p ∷ ps) n h = after (times item (p .1) n) (parts item ps) _ (times-within (p .1) n h) (parts-within ps)
+
+emit-within : (d : ℕ) (t : List ℕ) (n : ℕ) → n ≤ length t → Within (length t) (emit d t n)
+unfolding emit
+emit-within zero t n h = tt
+emit-within (suc d) t n h = go (leb (length t / 6) n) refl (parts-within (length t) (emit d t) (emit-within d t) _ (n + 1))
+  where
+    go : (b : Bool) → leb (length t / 6) n ≡ b → (n + 1 ≤ length t → Within (length t) (parts (emit d t) (partsOf (layoutOf (recordAt t n .kind)) (recordAt t n)) (n + 1)))
+        → Within (length t) (cond b torn (parts (emit d t) (partsOf (layoutOf (recordAt t n .kind)) (recordAt t n)) (n + 1)))
+    go true e x = tt
+    go false e x = let i : n < length t / 6 = leb-false _ _ e in x (omega arith)
+
+next-below : (k : ℕ) (q : Emitted) (at e m : ℕ) (w : Emit) (o o₁ : List ℕ) → Within k q → Emits q at w o o₁ → w ≡ Next e m → m ≤ k
+unfolding resultOf
+next-below k torn at e m w o o₁ x y g = clash (sym (y .result) ∙ g)
+next-below k (wrote bs j) at e m w o o₁ x y g = by-fit (fit bs j at (length o) w (y .result))
+  where
+    by-fit : Fit bs at (length o) w (Next (at + length bs) j) → m ≤ k
+    by-fit (fits h z) = let i : m ≡ j = cc in omega arith
+    by-fit (over h z) = clash (sym z ∙ g)
+
+module _ (d : ℕ) (t : List ℕ) (n : ℕ) (h : n ≤ length t) (at e m : ℕ) (w : Emit) (o o₁ : List ℕ) where
+  pub emit-below : Emits (emit d t n) at w o o₁ → w ≡ Next e m → m ≤ length t
+  emit-below x g = next-below (length t) _ at e m w o o₁ (emit-within d t n h) x g
+
+  pub times-below : (c : ℕ) → Emits (times (emit d t) c n) at w o o₁ → w ≡ Next e m → m ≤ length t
+  times-below c x g = next-below (length t) _ at e m w o o₁ (times-within (length t) (emit d t) (emit-within d t) c n h) x g
+
+-- ---- array_at
 module _ (item : ℕ → Emitted) (node : Node) (n at : ℕ) (w : Emit) (o o₁ : List ℕ) (x : Emits (followed (spelled (node .kind ∷ []) n) (times item 1)) at w o o₁) where
   split : parts item (partsOf array node) n
       ≡ followed (followed (spelled (node .kind ∷ []) n) (times item 1)) (parts item ((node .a ∷ node .b ∷ [], node .b) ∷ (lowsOf node ∷ [], lowsOf node) ∷ []))

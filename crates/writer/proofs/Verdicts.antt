@@ -10,11 +10,11 @@ use lib.Seq.{sets, sets-eq, take-at, length-take-le}
 use lib.Dec.{leb}
 use borrow.Author.Tests.{leb-true, leb-false, le-leb, lt-leb}
 use Rattle.number.specs.declared.token.Counts.{Counts}
-use Rattle.grammar.specs.Limits.{maxBytes}
+use Rattle.grammar.specs.Limits.{maxBytes, maxDepth}
 use Rattle.grammar.specs.Kinds.{maxKind}
 use Rattle.grammar.specs.Table.{flat}
 use Rattle.grammar.specs.Judge.{Out, fault, done, bind, check, known, judge, reading}
-use Rattle.grammar.specs.Emit.{Emitted, torn, wrote, emitted}
+use Rattle.grammar.specs.Emit.{Emitted, torn, wrote, times, emit, emitted}
 use Rattle.grammar.specs.Writer.{same, isTable, confirmed, writing}
 use Rattle.grammar.specs.declared.Node.{Node}
 use Rattle.grammar.proofs.Sound.{Holds, holds}
@@ -28,7 +28,7 @@ use Rattle.writer.specs.Emission.{resultOf, leavesOf, Emits}
 use Rattle.writer.specs.declared.emit.Emit.{Emit}
 use Rattle.writer.specs.declared.emit.Emit.the-variants.{Next, Stop}
 use Rattle.writer.proofs.Lists.{same-lengths}
-use Rattle.writer.proofs.Laws.{clash, Fit, fits, over, fit, found, next-within}
+use Rattle.writer.proofs.Laws.{clash, Fit, fits, over, fit, emits-is, found, next-within, times-one}
 
 -- ---- confirms_in: a is what the reader answers, o₁ what it leaves of the records o that are lent
 
@@ -164,16 +164,20 @@ module _ (kind : ℕ) (counts : Counts) (t s o : List ℕ) where
 
 -- ---- write_known: y is what emitting gave, o₁ what it left of the bytes b
 
-module _ (t : List ℕ) (y : Emit) (b o₁ : List ℕ) (x : Emits (emitted t) 0 y b o₁) (at n : ℕ) (g : y ≡ Next at n) where
+-- one subtree from record 0 on is the whole table's
+whole : (t : List ℕ) (y : Emit) (b o₁ : List ℕ) → Emits (times (emit maxDepth t) 1 0) 0 y b o₁ → Emits (emitted t) 0 y b o₁
+whole t y b o₁ x = emits-is _ _ 0 y b o₁ (sym (times-one (emit maxDepth t) 0)) x
+
+module _ (t : List ℕ) (y : Emit) (b o₁ : List ℕ) (x : Emits (times (emit maxDepth t) 1 0) 0 y b o₁) (at n : ℕ) (g : y ≡ Next at n) where
   pub blob-within : at ≤ length o₁
-  blob-within = next-within (emitted t) 0 at n b o₁ (found _ 0 y _ b o₁ g x)
+  blob-within = next-within _ 0 at n b o₁ (found _ 0 y _ b o₁ g x)
 
   pub blob-length : length (take at o₁) ≡ at
   blob-length = length-take-le at o₁ blob-within
 
   blob-emitted : emitted t ≡ wrote (take at o₁) n
   unfolding resultOf leavesOf
-  blob-emitted = go (emitted t) x
+  blob-emitted = go (emitted t) (whole t y b o₁ x)
     where
       by-fit : (bs : List ℕ) (m : ℕ) → (0 + length bs ≤ length b → o₁ ≡ sets b 0 bs) → Fit bs 0 (length b) y (Next (0 + length bs) m) → wrote bs m ≡ wrote (take at o₁) n
       by-fit bs m f (fits h e) =
@@ -196,9 +200,9 @@ module _ (t : List ℕ) (y : Emit) (b o₁ : List ℕ) (x : Emits (emitted t) 0 
 abbrev blank : List ℕ
 blank = replicate 4096 0
 
-pub write-stop : (kind : ℕ) (counts : Counts) (t : List ℕ) (y : Emit) (o₁ : List ℕ) → Emits (emitted t) 0 y blank o₁ → (o : List ℕ) → y ≡ Stop → Gives (reader.answer 14 0) o o kind counts t (emitted t)
+pub write-stop : (kind : ℕ) (counts : Counts) (t : List ℕ) (y : Emit) (o₁ : List ℕ) → Emits (times (emit maxDepth t) 1 0) 0 y blank o₁ → (o : List ℕ) → y ≡ Stop → Gives (reader.answer 14 0) o o kind counts t (emitted t)
 unfolding answerOf outputOf resultOf
-write-stop kind counts t y o₁ x o g = go (emitted t) x
+write-stop kind counts t y o₁ x o g = go (emitted t) (whole t y blank o₁ x)
   where
     by-fit : (bs : List ℕ) (n : ℕ) → Fit bs 0 (length blank) y (Next (0 + length bs) n) → Gives (reader.answer 14 0) o o kind counts t (wrote bs n)
     by-fit bs n (fits h e) = clash (sym g ∙ e)

@@ -1,24 +1,16 @@
 -- What the emitting functions give and leave, by the emission of grammar's definitions. Internal: an auditor goes by Written.antt and
 -- grammar's `writing`.
-use Prim.Native.Nat.{ℕ, _+_, _-_, _≤_}
+use Prim.Native.Nat.{ℕ, _+_, _-_, _≤_, _<_}
 use mathlib.Core.Path.{_≡_}
-use mathlib.Core.Bool.{Bool, cond, _&&_}
+use mathlib.Core.Bool.{cond}
 use mathlib.Core.List.{List, [], _∷_, _++_}
 use lib.ListN.{length}
 use lib.Seq.{sets}
-use lib.Dec.{ltb, leb, eqb}
+use lib.Dec.{leb, eqb}
 use Rattle.grammar.specs.Emit.{Layout, plain, valued, array, instance, callable, field, locals, bound, Emitted, torn, wrote, andThen, spell}
 use Rattle.grammar.specs.declared.Node.{Node}
 use Rattle.writer.specs.declared.emit.Emit.{Emit}
 use Rattle.writer.specs.declared.emit.Emit.the-variants.{Next, Stop}
-use Rattle.writer.specs.declared.emit.Front.{Front}
-use Rattle.writer.specs.declared.emit.Front.the-variants.{Single, Pair, Triple, Quad}
-
-abbrev pub numbersOf : Front → List ℕ
-numbersOf (Single x) = x ∷ []
-numbersOf (Pair x y) = x ∷ y ∷ []
-numbersOf (Triple x y z) = x ∷ y ∷ z ∷ []
-numbersOf (Quad x y z w) = x ∷ y ∷ z ∷ w ∷ []
 
 -- the numbers of a record's first part
 unfoldable pub frontOf : Layout → Node → List ℕ
@@ -31,13 +23,14 @@ frontOf field r = 0x06 ∷ []
 frontOf locals r = 0x07 ∷ r .children ∷ []
 frontOf bound r = r .a ∷ []
 
--- a record that is its code alone, by the codes below VALUETYPE's
-unfoldable pub leaf : Node → Bool
-leaf r = ltb (r .kind) 0x11 && eqb (r .children) 0
-
 -- numbers alone, before record n
 abbrev pub spelled : List ℕ → ℕ → Emitted
 spelled vs n = wrote (spell vs []) n
+
+-- numbers put into a buffer from `at` on, where r is the offset after them; or not all fitted, and r is past the end
+pub data Spelt (vs : List ℕ) (at r : ℕ) (before after : List ℕ) : Type 0 where
+  put : at + length (spell vs []) ≤ length before → r ≡ at + length (spell vs []) → after ≡ sets before at (spell vs []) → Spelt vs at r before after
+  cut : length before < at + length (spell vs []) → r ≡ length before + 1 → length after ≡ length before → Spelt vs at r before after
 
 -- one emission after another
 unfoldable pub followed : Emitted → (ℕ → Emitted) → Emitted

@@ -1,11 +1,11 @@
 // The bytes of a node table, from its records alone. Nothing of the table is trusted: what is emitted counts only once it was judged.
 ghost use mathlib.Core.Path.{_≡_};
+ghost use mathlib.Core.List.{[], _∷_};
 ghost use Prim.Native.Nat.{_+_, _-_, _*_, _≤_};
 ghost use lib.ListN.{length};
-ghost use Rattle.number.specs.Number.{encode};
 ghost use Rattle.grammar.specs.Table.{recordAt};
-ghost use Rattle.grammar.specs.Emit.{array, callable, layoutOf, partsOf, wrote, times, parts, emit};
-ghost use Rattle.writer.specs.Emission.{numbersOf, frontOf, leaf, spelled, followed, Emits};
+ghost use Rattle.grammar.specs.Emit.{array, callable, layoutOf, partsOf, times, parts, emit};
+ghost use Rattle.writer.specs.Emission.{frontOf, Spelt, Emits};
 use grammar::Node;
 
 const ARRAY: u32 = 0x14;
@@ -14,14 +14,6 @@ const ARRAY: u32 = 0x14;
 pub enum Emit {
     Next { at: usize, node: usize },
     Stop,
-}
-
-// The numbers that stand before a node's children.
-pub enum Front {
-    Single(u32),
-    Pair(u32, u32),
-    Triple(u32, u32, u32),
-    Quad(u32, u32, u32, u32),
 }
 
 // The difference, or 0.
@@ -50,126 +42,98 @@ fn record_at(table: &[u32], n: usize) -> Node
     }
 }
 
-// METHOD or PROPERTY: the lead byte, a generic count where there is one, and ParamCount.
-fn call_front(node: Node) -> Front
-    ensures { λ r. ⌜ numbersOf r ≡ frontOf callable node ⌝ }
-{
-    let count = less(node.children, 1);
-    if node.a == 0 {
-        return Front::Pair(node.b, count);
-    }
-    Front::Triple(node.b, node.a, count)
-}
-
-// The numbers that a record puts before its children, or before the first of them.
-fn front_of(node: Node) -> Front
-    ensures { λ r. ⌜ numbersOf r ≡ frontOf (layoutOf (node .kind)) node ⌝ }
-{
-    let kind = node.kind;
-    match kind {
-        0x11 => Front::Pair(kind, node.a),
-        0x12 => Front::Pair(kind, node.a),
-        0x13 => Front::Pair(kind, node.a),
-        0x15 => Front::Quad(kind, node.b, node.a, node.children),
-        0x1E => Front::Pair(kind, node.a),
-        0x1F => Front::Pair(kind, node.a),
-        0x20 => Front::Pair(kind, node.a),
-        0x100 => call_front(node),
-        0x101 => Front::Single(0x06),
-        0x102 => Front::Pair(0x07, node.children),
-        0x103 => call_front(node),
-        0x104 => Front::Single(node.a),
-        0x105 => Front::Single(node.a),
-        _ => Front::Single(kind),
-    }
-}
-
-// A record that is its code alone, told before any layout is looked up, for speed.
-fn is_leaf(node: Node) -> bool
-    ensures { λ r. ⌜ r ≡ leaf node ⌝ }
-{
-    if node.kind < 0x11 {
-        return node.children == 0;
-    }
-    false
-}
-
-// One number, where it fits.
-fn number_to(out: &mut [u8], v: u32, at: usize, n: usize) -> Emit
-    ensures { λ r. ⌜ Emits (wrote (encode v) n) at r (now (out .entry)) (now (out .exit)) ⌝ }
+// One number where it fits: the offset after it, or one past the end of the buffer.
+fn number_to(out: &mut [u8], v: u32, at: usize) -> usize
+    ensures { λ r. ⌜ Spelt (v ∷ []) at r (now (out .entry)) (now (out .exit)) ⌝ }
 {
     let len = number::number_len(v);
     if out.len() < len {
-        return Emit::Stop;
+        return out.len() + 1;
     }
     if out.len() - len < at {
-        return Emit::Stop;
+        return out.len() + 1;
     }
     number::put_number(out, at, v);
-    Emit::Next {
-        at: at + len,
-        node: n,
-    }
+    at + len
 }
 
-fn pair_to(out: &mut [u8], x: u32, y: u32, at: usize, n: usize) -> Emit
-    ensures { λ r. ⌜ Emits (followed (wrote (encode x) n) (wrote (encode y))) at r (now (out .entry)) (now (out .exit)) ⌝ }
+fn pair_to(out: &mut [u8], x: u32, y: u32, at: usize) -> usize
+    ensures { λ r. ⌜ Spelt (x ∷ y ∷ []) at r (now (out .entry)) (now (out .exit)) ⌝ }
 {
-    match number_to(out, x, at, n) {
-        Emit::Next { at: e, node: m } => number_to(out, y, e, m),
-        Emit::Stop => Emit::Stop,
-    }
+    let e = number_to(out, x, at);
+    number_to(out, y, e)
 }
 
-// Some numbers, one after the other.
-fn front_to(out: &mut [u8], front: Front, at: usize, n: usize) -> Emit
-    ensures { λ r. ⌜ Emits (spelled (numbersOf front) n) at r (now (out .entry)) (now (out .exit)) ⌝ }
+// METHOD or PROPERTY: the lead byte, a generic count where there is one, and ParamCount.
+fn call_to(out: &mut [u8], node: Node, at: usize) -> usize
+    ensures { λ r. ⌜ Spelt (frontOf callable node) at r (now (out .entry)) (now (out .exit)) ⌝ }
 {
-    match front {
-        Front::Single(x) => number_to(out, x, at, n),
-        Front::Pair(x, y) => pair_to(out, x, y, at, n),
-        Front::Triple(x, y, z) => match number_to(out, x, at, n) {
-            Emit::Next { at: e, node: m } => pair_to(out, y, z, e, m),
-            Emit::Stop => Emit::Stop,
-        },
-        Front::Quad(x, y, z, w) => match pair_to(out, x, y, at, n) {
-            Emit::Next { at: e, node: m } => pair_to(out, z, w, e, m),
-            Emit::Stop => Emit::Stop,
-        },
+    let count = less(node.children, 1);
+    if node.a == 0 {
+        return pair_to(out, node.b, count, at);
+    }
+    let e = number_to(out, node.b, at);
+    pair_to(out, node.a, count, e)
+}
+
+// The numbers that a record puts before its children, or before the first of them.
+fn front_to(out: &mut [u8], node: Node, at: usize) -> usize
+    ensures { λ r. ⌜ Spelt (frontOf (layoutOf (node .kind)) node) at r (now (out .entry)) (now (out .exit)) ⌝ }
+{
+    let kind = node.kind;
+    match kind {
+        0x11 | 0x12 | 0x13 | 0x1E | 0x1F | 0x20 => pair_to(out, kind, node.a, at),
+        0x15 => {
+            let e = pair_to(out, kind, node.b, at);
+            pair_to(out, node.a, node.children, e)
+        }
+        0x100 | 0x103 => call_to(out, node, at),
+        0x101 => number_to(out, 0x06, at),
+        0x102 => pair_to(out, 0x07, node.children, at),
+        0x104 | 0x105 => number_to(out, node.a, at),
+        _ => number_to(out, kind, at),
     }
 }
 
 // The subtree whose root is record n, from the offset `at` on, with d levels left.
-pub fn emit_at(out: &mut [u8], d: usize, table: &[u32], at: usize, n: usize) -> Emit
+fn emit_at(out: &mut [u8], d: usize, table: &[u32], at: usize, n: usize) -> Emit
+    requires { ⌜ n ≤ length (now table) ⌝ }
     ensures { λ r. ⌜ Emits (emit d (now (table .entry)) n) at r (now (out .entry)) (now (out .exit)) ⌝ }
 {
     if d == 0 {
         return Emit::Stop;
     }
-    if table.len() / 6 <= n {
+    if table.len() < 6 * n + 6 {
         return Emit::Stop;
     }
     let node = record_at(table, n);
-    if is_leaf(node) {
-        return number_to(out, node.kind, at, n + 1);
-    }
     if node.kind == ARRAY {
         return array_at(out, d - 1, table, node, at, n + 1);
     }
-    let front = front_of(node);
-    part_at(out, d - 1, table, front, node.children, at, n + 1)
+    let e = front_to(out, node, at);
+    if out.len() < e {
+        return Emit::Stop;
+    }
+    if node.children == 0 {
+        return Emit::Next { at: e, node: n + 1 };
+    }
+    all_at(out, d - 1, table, node.children, e, n + 1)
 }
 
 // An ARRAY: its type, then Rank, NumSizes and the sizes, then NumLoBounds and the low bounds.
 fn array_at(out: &mut [u8], d: usize, table: &[u32], node: Node, at: usize, n: usize) -> Emit
+    requires { ⌜ n ≤ length (now table) ⌝ }
     ensures { λ r. ⌜ Emits (parts (emit d (now (table .entry))) (partsOf array node) n) at r (now (out .entry)) (now (out .exit)) ⌝ }
 {
-    let lows = less(less(node.children, 1), node.b);
-    match part_at(out, d, table, Front::Single(node.kind), 1, at, n) {
+    let first = number_to(out, node.kind, at);
+    match all_at(out, d, table, 1, first, n) {
         Emit::Next { at: e, node: m } => {
-            match part_at(out, d, table, Front::Pair(node.a, node.b), node.b, e, m) {
+            let sizes = pair_to(out, node.a, node.b, e);
+            match all_at(out, d, table, node.b, sizes, m) {
                 Emit::Next { at: e2, node: m2 } => {
-                    part_at(out, d, table, Front::Single(lows), lows, e2, m2)
+                    let lows = less(less(node.children, 1), node.b);
+                    let then = number_to(out, lows, e2);
+                    all_at(out, d, table, lows, then, m2)
                 }
                 Emit::Stop => Emit::Stop,
             }
@@ -178,29 +142,14 @@ fn array_at(out: &mut [u8], d: usize, table: &[u32], node: Node, at: usize, n: u
     }
 }
 
-// Some numbers, then `count` subtrees.
-fn part_at(
-    out: &mut [u8],
-    d: usize,
-    table: &[u32],
-    front: Front,
-    count: u32,
-    at: usize,
-    n: usize,
-) -> Emit
-    ensures { λ r. ⌜ Emits (followed (spelled (numbersOf front) n) (times (emit d (now (table .entry))) count)) at r (now (out .entry)) (now (out .exit)) ⌝ }
-{
-    match front_to(out, front, at, n) {
-        Emit::Next { at: e, node: m } => all_at(out, d, table, count, e, m),
-        Emit::Stop => Emit::Stop,
-    }
-}
-
-// `count` subtrees one after the other.
-fn all_at(out: &mut [u8], d: usize, table: &[u32], count: u32, at: usize, n: usize) -> Emit
-    requires { ⌜ at ≤ length (now out) ⌝ }
+// `count` subtrees one after the other; none from an offset past the end on.
+pub fn all_at(out: &mut [u8], d: usize, table: &[u32], count: u32, at: usize, n: usize) -> Emit
+    requires { ⌜ n ≤ length (now table) ⌝ }
     ensures { λ r. ⌜ Emits (times (emit d (now (table .entry))) count n) at r (now (out .entry)) (now (out .exit)) ⌝ }
 {
+    if out.len() < at {
+        return Emit::Stop;
+    }
     let mut left = count;
     let mut e = at;
     let mut m = n;

@@ -100,13 +100,13 @@ fn write_known(kind: u32, counts: Counts, table: &[u32], out: &mut [u8]) -> Answ
 {
     if table.len() <= 96 {
         let mut few = [0u8; 128];
-        match emit::emit_at(&mut few, MAX_DEPTH, table, 0, 0) {
+        match emit::all_at(&mut few, MAX_DEPTH, table, 1, 0, 0) {
             Emit::Next { at, node } => return copy_confirmed(kind, counts, &few[..at], table, out),
             Emit::Stop => {}
         }
     }
     let mut blob = [0u8; 4096];
-    match emit::emit_at(&mut blob, MAX_DEPTH, table, 0, 0) {
+    match emit::all_at(&mut blob, MAX_DEPTH, table, 1, 0, 0) {
         Emit::Next { at, node } => copy_confirmed(kind, counts, &blob[..at], table, out),
         Emit::Stop => Answer { code: 14, place: 0 },
     }

@@ -1,36 +1,39 @@
 -- `writer::emit::front_to` meets its contract. Assumes nothing.
 use borrow.Author.Needs.{needs}
-use Rattle.writer.proofs.Steps.{front-single, front-pair, triple-next, triple-stop, quad-next, quad-stop}
+use native.Mathlib.Omega.{arith}
+use mathlib.Core.Path.{refl}
+use mathlib.Core.Logic.{⊎-elim, inl, inr}
+use Rattle.grammar.specs.Emit.{layoutOf}
+use Rattle.writer.specs.Emission.{frontOf}
+use Rattle.writer.proofs.Laws.{spelt-more}
+use Rattle.writer.proofs.Steps.{front-three, front-bound, front-plain, spelt-front}
 use Rattle.writer.proofs.emit.front_to.Statement.{statement}
 use Rattle.writer.proofs.emit.front_to.Tie as tie
 
 pub front-to-spec : {M : Type 1} → statement M
+unfolding frontOf layoutOf
 front-to-spec =
     tie.close
     (tie.spec
-    (λ c. search needs)
+    (λ c κs. search needs)
+    (λ c κs. search needs)
+    (λ c κs. search needs)
+    (λ c κs. search needs)
+    (λ c κs. search needs)
+    (λ c κs. search needs)
+    (λ c κs. search needs)
     (λ c κs. search needs)
     (λ c. search needs)
-    (λ c κs. search needs)
+    (λ c. spelt-front _ 0x15 (c .before .before .before .before .before .before .before .before .match .keys1) refl (spelt-more (c .before .before .before .before .before .before .pair-to .ensures) (c .before .before .pair-to2 .ensures)))
     (λ c. search needs)
-    (λ c κs. search needs)
+    (λ c. ⊎-elim (λ e. spelt-front _ 0x100 e refl (c .before .before .call-to .ensures)) (λ e. spelt-front _ 0x103 e refl (c .before .before .call-to .ensures)) (c .before .before .before .before .match .keys2))
     (λ c. search needs)
-    (λ c κs. search needs)
+    (λ c. spelt-front _ 0x101 (c .before .before .before .before .match .keys3) refl (c .before .before .number-to .ensures))
     (λ c. search needs)
+    (λ c. spelt-front _ 0x102 (c .before .before .before .before .match .keys4) refl (c .before .before .pair-to3 .ensures))
     (λ c. search needs)
-    (λ c κs. search needs)
+    (λ c. let r = c .before .before .before .before .before .before .before .before .before .before .before .before .args .node in let n = c .before .before .before .before .before .before .before .before .before .before .match .rest in spelt-front r (r .kind) refl (front-bound r (omega arith) (omega arith) (λ e. n .0 .0 .1 (inl e)) (n .0 .1) (n .1) (λ e. n .0 .0 .1 (inr e))) (c .before .before .number-to2 .ensures))
     (λ c. search needs)
-    (λ c κs. search needs)
+    (λ c. let r = c .before .before .before .before .before .before .before .before .args .node in spelt-front r (r .kind) refl (⊎-elim (λ e. front-three r _ 0x11 refl refl refl (omega arith) (omega arith)) (λ e. front-three r _ 0x1E refl refl refl (omega arith) (omega arith)) (c .before .before .before .before .if2 .came)) (c .before .before .pair-to4 .ensures))
     (λ c. search needs)
-    (λ c. search needs)
-    (λ c. front-single _ _ _ _ _ _ _ (c .before .before .before .before .before .front .given .1) (c .before .before .number-to .ensures))
-    (λ c. search needs)
-    (λ c. front-pair _ _ _ _ _ _ _ _ (c .before .before .before .before .before .front2 .given .1) (c .before .before .pair-to .ensures))
-    (λ c. search needs)
-    (λ c. triple-next _ _ _ _ _ _ _ (c .before .before .before .before .before .before .before .before .before .before .before .before .front3 .given .1) _ _ (c .before .before .before .before .before .before .before .before .before .number-to2 .ensures) _ _ _ _ (c .before .before .before .before .before .e .given .1) (c .before .before .pair-to2 .ensures))
-    (λ c. search needs)
-    (λ c. triple-stop _ _ _ _ _ _ _ (c .before .before .before .before .before .before .before .front3 .given .1) _ _ (c .before .before .before .before .number-to2 .ensures) (c .enum-told .given .1))
-    (λ c. search needs)
-    (λ c. quad-next _ _ _ _ _ _ _ _ (c .before .before .before .before .before .before .before .before .before .before .before .before .front4 .given .1) _ _ (c .before .before .before .before .before .before .before .before .before .pair-to3 .ensures) _ _ _ _ (c .before .before .before .before .before .e2 .given .1) (c .before .before .pair-to4 .ensures))
-    (λ c. search needs)
-    (λ c. quad-stop _ _ _ _ _ _ _ _ (c .before .before .before .before .before .before .before .front4 .given .1) _ _ (c .before .before .before .before .pair-to3 .ensures) (c .enum-told2 .given .1)))
+    (λ c. let r = c .before .before .before .before .before .before .before .args .node in spelt-front r (r .kind) refl (front-plain r (c .before .before .before .before .before .match .rest .0 .0 .0 .1) (⊎-elim (λ e. omega arith) (⊎-elim (λ e. omega arith) (⊎-elim (λ e. omega arith) (λ e. omega arith))) (c .before .before .before .before .if1 .came))) (c .before .before .number-to3 .ensures)))

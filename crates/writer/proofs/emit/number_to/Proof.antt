@@ -1,7 +1,8 @@
 -- `writer::emit::number_to` meets its contract. Assumes nothing.
 use borrow.Author.Needs.{needs}
 use native.Mathlib.Omega.{arith}
-use Rattle.writer.proofs.Laws.{number-stop, number-next}
+use mathlib.Core.Path.{refl}
+use Rattle.writer.proofs.Laws.{number-cut, number-put}
 use Rattle.writer.proofs.emit.number_to.Statement.{statement}
 use Rattle.writer.proofs.emit.number_to.Tie as tie
 
@@ -10,10 +11,12 @@ number-to-spec =
     tie.close
     (tie.spec
     (λ c κs. search needs)
-    (λ c. number-stop _ _ _ _ (omega (arith, c .before .number-len .ensures)))
     (λ c. search needs)
-    (λ c. number-stop _ _ _ _ (omega (arith, c .before .if1 .left, c .before .before .number-len .ensures)))
+    (λ c. number-cut _ _ _ _ (omega (arith, c .before .number-len .ensures)) refl)
+    (λ c. search needs)
+    (λ c. search needs)
+    (λ c. number-cut _ _ _ _ (omega (arith, c .before .if1 .left, c .before .before .number-len .ensures)) refl)
     (λ c κs. search needs)
     (λ c. search needs)
     (λ c. search needs)
-    (λ c. number-next _ _ _ _ _ _ (omega (arith, c .before .before .before .before .if2 .left, c .before .before .before .before .before .if1 .left, c .before .before .before .before .before .before .number-len .ensures)) (omega (arith, c .before .before .before .before .before .before .number-len .ensures)) (c .before .before .put-number .ensures .1)))
+    (λ c. number-put _ _ _ _ _ (omega (arith, c .before .before .before .before .if2 .left, c .before .before .before .before .before .if1 .left, c .before .before .before .before .before .before .number-len .ensures)) (omega (arith, c .before .before .before .before .before .before .number-len .ensures)) (c .before .before .put-number .ensures .1)))

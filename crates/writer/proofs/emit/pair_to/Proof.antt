@@ -1,6 +1,6 @@
 -- `writer::emit::pair_to` meets its contract. Assumes nothing.
 use borrow.Author.Needs.{needs}
-use Rattle.writer.proofs.Laws.{emits-next, emits-stop, found}
+use Rattle.writer.proofs.Laws.{spelt-more}
 use Rattle.writer.proofs.emit.pair_to.Statement.{statement}
 use Rattle.writer.proofs.emit.pair_to.Tie as tie
 
@@ -9,10 +9,6 @@ pair-to-spec =
     tie.close
     (tie.spec
     (λ c κs. search needs)
-    (λ c. search needs)
     (λ c κs. search needs)
     (λ c. search needs)
-    (λ c. search needs)
-    (λ c. emits-next _ _ _ _ _ _ _ _ _ (found _ _ _ _ _ _ (c .before .before .before .before .before .e .given .1) (c .before .before .before .before .before .before .before .before .before .number-to .ensures)) (c .before .before .number-to2 .ensures))
-    (λ c. search needs)
-    (λ c. emits-stop _ _ _ _ _ (found _ _ _ _ _ _ (c .enum-told .given .1) (c .before .before .before .before .number-to .ensures))))
+    (λ c. spelt-more (c .before .before .before .before .before .before .number-to .ensures) (c .before .before .number-to2 .ensures)))

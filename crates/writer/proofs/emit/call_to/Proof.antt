@@ -1,0 +1,19 @@
+-- `writer::emit::call_to` meets its contract. Assumes nothing.
+use borrow.Author.Needs.{needs}
+use Rattle.writer.proofs.Laws.{spelt-is, spelt-more}
+use Rattle.writer.proofs.Steps.{call-plain, call-generic}
+use Rattle.writer.proofs.emit.call_to.Statement.{statement}
+use Rattle.writer.proofs.emit.call_to.Tie as tie
+
+pub call-to-spec : {M : Type 1} → statement M
+call-to-spec =
+    tie.close
+    (tie.spec
+    (λ c κs. search needs)
+    (λ c κs. search needs)
+    (λ c. search needs)
+    (λ c. spelt-is (call-plain _ _ (c .before .before .before .before .if1 .taken) (c .before .before .before .before .before .before .less .ensures)) (c .before .before .pair-to .ensures))
+    (λ c κs. search needs)
+    (λ c κs. search needs)
+    (λ c. search needs)
+    (λ c. spelt-is (call-generic _ _ (c .before .before .before .before .before .before .before .before .if1 .left) (c .before .before .before .before .before .before .before .before .before .before .less .ensures)) (spelt-more (c .before .before .before .before .before .before .number-to .ensures) (c .before .before .pair-to2 .ensures))))
