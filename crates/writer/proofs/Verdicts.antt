@@ -1,135 +1,27 @@
--- What is emitted, judged again and held against the table: the ways through `confirms`, `write_known` and `write`, as laws over plain values.
+-- What is emitted, judged again and held against the table: the ways through `copy_confirmed`, `write_known` and `write`, as laws over plain values.
 -- Assumes nothing.
-use Prim.Native.Nat.{ℕ, _+_, _*_, _/_, _≤_, _<_}
+use Prim.Native.Nat.{ℕ, _+_, _≤_, _<_}
 use native.Mathlib.Omega.{arith}
 use mathlib.Core.Path.{_≡_, refl, sym, ap, _∙_}
 use mathlib.Core.Bool.{Bool, true, false}
 use mathlib.Core.List.{List, _++_}
-use lib.ListN.{length, take, drop, replicate, length-append, length-replicate}
+use lib.ListN.{length, take, drop, replicate, length-replicate}
 use lib.Seq.{sets, sets-eq, take-at, length-take-le}
 use lib.Dec.{leb}
-use borrow.Author.Tests.{leb-true, leb-false, le-leb, lt-leb}
+use borrow.Author.Tests.{le-leb, lt-leb}
 use Rattle.number.specs.declared.token.Counts.{Counts}
 use Rattle.grammar.specs.Limits.{maxBytes, maxDepth}
 use Rattle.grammar.specs.Kinds.{maxKind}
-use Rattle.grammar.specs.Table.{flat}
-use Rattle.grammar.specs.Judge.{Out, fault, done, bind, check, known, judge, reading}
+use Rattle.grammar.specs.Judge.{fault, check, known, judge}
 use Rattle.grammar.specs.Emit.{Emitted, torn, wrote, times, emit, emitted}
-use Rattle.grammar.specs.Writer.{same, isTable, confirmed, writing}
-use Rattle.grammar.specs.declared.Node.{Node}
-use Rattle.grammar.proofs.Sound.{Holds, holds}
-use Rattle.grammar.proofs.Bounds.{Ends, ends-judge}
-use Rattle.grammar.proofs.Refusals.{judge-refuses}
-use Rattle.grammar.proofs.Emits.{length-flat}
+use Rattle.grammar.specs.Writer.{isTable, confirmed, writing}
 use Rattle.reader.specs.Answer as reader
 use Rattle.reader.specs.declared.Answer.{Answer}
 use Rattle.writer.specs.Written.{answerOf, outputOf}
 use Rattle.writer.specs.Emission.{resultOf, leavesOf, Emits}
 use Rattle.writer.specs.declared.emit.Emit.{Emit}
 use Rattle.writer.specs.declared.emit.Emit.the-variants.{Next, Stop}
-use Rattle.writer.proofs.Lists.{same-lengths}
 use Rattle.writer.proofs.Laws.{clash, Fit, fits, over, fit, emits-is, found, next-within, times-one}
-
--- ---- confirms_in: a is what the reader answers, o₁ what it leaves of the records o that are lent
-
--- a table that no judgement gives, since it has another length
-not-table : (t : List ℕ) (at n : ℕ) (rs : List Node) → n ≡ length rs → (6 * n ≡ length t → ⊥) → false ≡ isTable t (done at n rs)
-unfolding isTable
-not-table t at n rs l h = same-lengths (flat rs) t (λ e. h (ap (λ (k : ℕ). 6 * k) l ∙ sym (length-flat rs) ∙ e))
-
-module _ (kind : ℕ) (counts : Counts) (s o : List ℕ) where
-  -- a refusal, and no table that o has room for; or the records
-  data Read : Type 0 where
-    not : (c p : ℕ) → reading kind counts s (length o / 6) ≡ fault c p → 1 ≤ c → ((t : List ℕ) → length t ≤ length o → false ≡ isTable t (judge kind counts s)) → Read
-    got : (at n : ℕ) (rs : List Node) → reading kind counts s (length o / 6) ≡ done at n rs → judge kind counts s ≡ done at n rs → 6 * n ≤ length o → n ≤ 1024 → n ≡ length rs
-        → Read
-
-  read : Read
-  unfolding reading isTable
-  read = go (judge kind counts s) refl (ends-judge kind counts s)
-    where
-      lend : (at n : ℕ) (rs : List Node) (b : Bool) → leb n (length o / 6) ≡ b → reading kind counts s (length o / 6) ≡ check b 11 n (λ _. done at n rs) → judge kind counts s ≡ done at n rs
-          → n ≤ 1024 → n ≡ length rs → Read
-      lend at n rs true b q g i l = let k : n ≤ length o / 6 = leb-true _ _ b in got at n rs q g (omega arith) i l
-      lend at n rs false b q g i l =
-          let k : length o / 6 < n = leb-false _ _ b in
-          not 11 n q (omega arith) (λ t h. not-table t at n rs l (λ e. omega arith) ∙ sym (ap (isTable t) g))
-
-      go : (x : Out) → judge kind counts s ≡ x → Holds (Ends 0) x → Read
-      go (fault c p) g z =
-          let i = judge-refuses kind counts s c p g .0 in
-          not c p (ap (λ (x : Out). bind x (λ at n rs. check (leb n (length o / 6)) 11 n (λ _. done at n rs))) g) (i .0) (λ t h. sym (ap (isTable t) g))
-      go (done at n rs) g (holds z) =
-          lend at n rs (leb n (length o / 6)) refl (ap (λ (x : Out). bind x (λ at n rs. check (leb n (length o / 6)) 11 n (λ _. done at n rs))) g) g (omega (arith, z .0)) (omega (arith, z .1))
-
-  module _ (a : Answer) (e : a ≡ reader.answerOf (reading kind counts s (length o / 6))) where
-    answered : (x : Out) → reading kind counts s (length o / 6) ≡ x → a ≡ reader.answerOf x
-    answered x q = e ∙ ap reader.answerOf q
-
-    pub confirms-not : (t : List ℕ) → length t ≤ length o → (a .code ≡ 0 → ⊥) → false ≡ isTable t (judge kind counts s)
-    unfolding reader.answerOf
-    confirms-not t l h = go read
-      where
-        go : Read → false ≡ isTable t (judge kind counts s)
-        go (not c p q i f) = f t l
-        go (got at n rs q g i m k) = absurd (h (ap (λ (y : Answer). y .code) (answered (done at n rs) q)))
-
-    -- where the answer is 0
-    module _ (h : a .code ≡ 0) where
-      data Took : Type 0 where
-        took : (at : ℕ) (rs : List Node) → reading kind counts s (length o / 6) ≡ done at (a .place) rs → judge kind counts s ≡ done at (a .place) rs → 6 * (a .place) ≤ length o
-            → a .place ≤ 1024 → length (flat rs) ≡ 6 * (a .place) → Took
-
-      took-all : Took
-      unfolding reader.answerOf
-      took-all = go read
-        where
-          go : Read → Took
-          go (not c p q i f) = let k : 0 ≡ c = sym h ∙ ap (λ (y : Answer). y .code) (answered (fault c p) q) in absurd (omega arith)
-          go (got at n rs q g i m l) =
-              let k : n ≡ a .place = sym (ap (λ (y : Answer). y .place) (answered (done at n rs) q)) in
-              let w : done at n rs ≡ done at (a .place) rs = ap (λ (j : ℕ). done at j rs) k in
-              took at rs (q ∙ w) (g ∙ w) (omega arith) (omega arith) (length-flat rs ∙ ap (λ (j : ℕ). 6 * j) (sym l ∙ k))
-
-      pub confirms-few : a .place ≤ 1024
-      confirms-few = go took-all
-        where
-          go : Took → a .place ≤ 1024
-          go (took at rs q g i m l) = m
-
-      module _ (o₁ : List ℕ) (j : o₁ ≡ reader.tableOf (reading kind counts s (length o / 6)) o) where
-        left : (at : ℕ) (rs : List Node) → reading kind counts s (length o / 6) ≡ done at (a .place) rs → o₁ ≡ flat rs ++ drop (6 * (a .place)) o
-        unfolding reader.tableOf
-        left at rs q = j ∙ ap (λ (x : Out). reader.tableOf x o) q
-
-        pub confirms-long : 6 * (a .place) ≤ length o₁
-        confirms-long = go took-all
-          where
-            go : Took → 6 * (a .place) ≤ length o₁
-            go (took at rs q g i m l) = let u = ap length (left at rs q) ∙ length-append (flat rs) (drop (6 * (a .place)) o) in omega (arith, u, l)
-
-        pub confirms-same : (t : List ℕ) (r : Bool) → r ≡ same (take (6 * (a .place)) o₁) t → r ≡ isTable t (judge kind counts s)
-        unfolding isTable
-        confirms-same t r q = go took-all
-          where
-            go : Took → r ≡ isTable t (judge kind counts s)
-            go (took at rs w g i m l) =
-                let v : take (6 * (a .place)) o₁ ≡ flat rs = ap (take (6 * (a .place))) (left at rs w) ∙ take-at (flat rs) _ (6 * (a .place)) l in
-                q ∙ ap (λ (x : List ℕ). same x t) v ∙ sym (ap (isTable t) g)
-
--- ---- confirms
-
--- no blob has more than 1,024 nodes
-pub confirms-over : (kind : ℕ) (counts : Counts) (s t : List ℕ) → 6144 < length t → false ≡ isTable t (judge kind counts s)
-unfolding isTable
-confirms-over kind counts s t h = go (judge kind counts s) (ends-judge kind counts s)
-  where
-    go : (x : Out) → Holds (Ends 0) x → false ≡ isTable t x
-    go (fault c p) z = refl
-    go (done at n rs) (holds z) = not-table t at n rs (omega (arith, z .1)) (λ e. omega (arith, z .0))
-
-pub part-length : (n : ℕ) (o : List ℕ) → n ≤ length o → n ≡ length (take n o)
-part-length n o h = sym (length-take-le n o h)
 
 -- ---- copy_confirmed: s is the blob, o the output
 

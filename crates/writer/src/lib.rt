@@ -4,9 +4,8 @@ ghost use mathlib.Core.Path.{_≡_};
 ghost use mathlib.Core.List.{_++_};
 ghost use Prim.Native.Nat.{_≤_};
 ghost use lib.ListN.{length, drop};
-ghost use Rattle.grammar.specs.Judge.{judge};
 ghost use Rattle.grammar.specs.Emit.{wrote, emitted};
-ghost use Rattle.grammar.specs.Writer.{same, isTable, confirmed, writing};
+ghost use Rattle.grammar.specs.Writer.{confirmed, writing};
 ghost use Rattle.writer.specs.Written.{answerOf, outputOf};
 use crate::emit::Emit;
 use grammar::MAX_DEPTH;
@@ -15,58 +14,6 @@ use number::token::Counts;
 use reader::Answer;
 
 mod emit;
-
-// Compares to the end, in any case: a loop without an exit is compiled to wide instructions.
-fn same_numbers(a: &[u32], b: &[u32]) -> bool
-    ensures { λ r. ⌜ r ≡ same (now (a .entry)) (now (b .entry)) ⌝ }
-{
-    if a.len() != b.len() {
-        return false;
-    }
-    let mut equal = true;
-    let mut i = 0;
-    while i < a.len() {
-        if a[i] != b[i] {
-            equal = false;
-        }
-        i += 1;
-    }
-    equal
-}
-
-// Whether the reader takes the whole blob and gives this table, read into records that are lent.
-fn confirms_in(seen: &mut [u32], kind: u32, counts: Counts, blob: &[u8], table: &[u32]) -> bool
-    requires { ⌜ length (now table) ≤ length (now seen) ⌝ }
-    ensures { λ r. ⌜ r ≡ isTable (now (table .entry)) (judge kind counts (now (blob .entry))) ⌝ }
-{
-    let answer = reader::read(kind, counts, blob, seen);
-    let code = answer.code;
-    let nodes = answer.place;
-    if code != 0 {
-        return false;
-    }
-    let end = 6 * nodes;
-    same_numbers(&seen[..end], table)
-}
-
-// Whether the reader takes the whole blob and gives this table. Its own records are as few as the table allows, since they are cleared.
-fn confirms(kind: u32, counts: Counts, blob: &[u8], table: &[u32]) -> bool
-    ensures { λ r. ⌜ r ≡ isTable (now (table .entry)) (judge kind counts (now (blob .entry))) ⌝ }
-{
-    if table.len() <= 96 {
-        let mut few = [0u32; 96];
-        return confirms_in(&mut few, kind, counts, blob, table);
-    }
-    if table.len() <= 768 {
-        let mut some = [0u32; 768];
-        return confirms_in(&mut some, kind, counts, blob, table);
-    }
-    if table.len() <= 6144 {
-        let mut seen = [0u32; 6144];
-        return confirms_in(&mut seen, kind, counts, blob, table);
-    }
-    false
-}
 
 // Copies `src` to the front of `out`.
 fn copy_to(out: &mut [u8], src: &[u8])
@@ -117,7 +64,7 @@ fn copy_confirmed(kind: u32, counts: Counts, blob: &[u8], table: &[u32], out: &m
     ensures { λ r. ⌜ (r ≡ answerOf (confirmed kind counts (now (table .entry)) (length (now (out .entry))) (wrote (now (blob .entry)) 0))) × (now (out .exit) ≡ outputOf (confirmed kind counts (now (table .entry)) (length (now (out .entry))) (wrote (now (blob .entry)) 0)) (now (out .entry))) ⌝ }
 {
     let len = blob.len();
-    if confirms(kind, counts, blob, table) {
+    if reader::table::has_table(kind, counts, blob, table) {
         if out.len() < len {
             return Answer {
                 code: 15,
