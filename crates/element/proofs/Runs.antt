@@ -1,19 +1,19 @@
 -- Tables of runs of bytes: a byte in a run and out of it, and an interval of bytes that no run cuts.
 -- Assumes nothing.
 use Prim.Native.Nat.{ℕ, suc, _≤_, _<_}
-use mathlib.Core.Path.{_≡_, refl, sym, ap, subst, _∙_}
+use mathlib.Core.Path.{_≡_, refl, sym, subst}
 use mathlib.Core.Bool.{Bool, true, false, cond, _&&_, _||_}
-use mathlib.Core.List.{List, [], _∷_, _++_}
+use mathlib.Core.List.{List, [], _∷_}
 use mathlib.Core.Logic.{_⊎_, inl, inr, ⊎-elim}
 use native.Mathlib.Nat.{eq-or-lt-of-le}
 use native.Mathlib.Omega.{arith}
 use lib.Dec.{T, leb, ltb, leb→le, ltb→lt}
 use borrow.Author.Tests.{leb-true, le-leb}
 use Rattle.element.specs.declared.Form.{Form}
-use Rattle.element.specs.declared.Form.the-variants.{Refused, Wrap, Modified}
+use Rattle.element.specs.declared.Form.the-variants.{Refused}
 use Rattle.element.specs.declared.Place.{Place}
 use Rattle.element.specs.declared.Place.the-variants as Place
-use Rattle.element.specs.Element.{Entry, run, one, within, lookup, bare, mods, void, byRef, typedByRef, entries, formOf}
+use Rattle.element.specs.Element.{Entry, run, within, lookup, bare, entries, formOf}
 use Rattle.element.specs.Decided.{typeFormOf, plain}
 
 pub inside : (first last b : ℕ) → first ≤ b → b ≤ last → within first last b ≡ true

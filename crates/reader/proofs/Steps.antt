@@ -39,7 +39,7 @@ use Rattle.reader.specs.declared.walk.Walk.the-variants.{Next, Stop}
 use Rattle.reader.proofs.Stamp.{length-stamp}
 use Rattle.reader.proofs.Opens.{sealed, bind-sealed, many-one, series-same, onOpen, onLead, Begun, begun, code-begun, Begins, node-open, open-begins, node-lead, node-shut, spec-node, field-node, locals-node}
 use Rattle.reader.proofs.Heads.{code-none}
-use Rattle.reader.proofs.Laws.{clash, walked-fault, walked-is, found, still, walked-seal, walked-small}
+use Rattle.reader.proofs.Laws.{clash, walked-fault, walked-is, still, walked-seal, walked-small}
 
 -- ---- bound_at. y is what the call gave, and its contract says that it is `checkedAt`
 
