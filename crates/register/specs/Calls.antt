@@ -109,11 +109,12 @@ ackOf g row = cond (eqb (gate (g .rows) row) 0) (ackAt g (row - 1)) (changed (ga
 abbrev pub told : (code standing finding place mark : ℕ) → Asked
 told code standing finding place mark = record { code = code; standing = standing; finding = finding; place = place; mark = mark }
 
+-- "finding and place 0 unless BAD", by what is kept of a row
+abbrev pub askedOf : (standing state code place mark : ℕ) → Asked
+askedOf standing state code place mark = told 0 standing (cond (eqb state 1) code 0) (cond (eqb state 1) place 0) mark
+
 unfoldable pub askAt : Register → ℕ → Asked
-askAt g i =
-    told 0 (standingOf g i) (cond (eqb (getD (g .states) i 0) 1) (getD (g .codes) i 0) 0)
-    (cond (eqb (getD (g .states) i 0) 1) (getD (g .places) i 0) 0)
-    (getD (g .marks) i 0)
+askAt g i = askedOf (standingOf g i) (getD (g .states) i 0) (getD (g .codes) i 0) (getD (g .places) i 0) (getD (g .marks) i 0)
 
 -- "Asking a row gives standing, finding, place, mark (finding and place 0 unless BAD; a refused asking has all four 0)"
 unfoldable pub askOf : Register → ℕ → Asked

@@ -9,7 +9,7 @@ ghost use Rattle.register.specs.Size.{maxSize, words};
 ghost use Rattle.register.specs.Outcome.{judged};
 ghost use Rattle.register.specs.Named.{namedBy};
 ghost use Rattle.register.specs.Model.{ackCode};
-ghost use Rattle.register.specs.Calls.{blank, openOf, gate, findingOf, filed, fileOf, marksAfter, ackAt, ackOf, askAt, askOf, standingOf, standingsOf};
+ghost use Rattle.register.specs.Calls.{blank, openOf, gate, findingOf, filed, fileOf, marksAfter, ackAt, ackOf, askedOf, askAt, askOf, standingOf, standingsOf};
 use grammar::MAX_NODES;
 use grammar::MAX_ROWS;
 use number::token::Counts;
@@ -281,16 +281,11 @@ pub fn acknowledge(g: Register, row: usize) -> Changed
     acknowledge_at(g, row - 1)
 }
 
-fn ask_at(g: Register, i: usize) -> Asked
-    requires { ⌜ (g .rows ≤ maxSize) × (i < g .rows) ⌝ }
-    ensures { λ r. ⌜ r ≡ askAt g i ⌝ }
+// What asking gives of a row, by what is kept of it: finding and place are 0 unless its blob was refused.
+pub fn asked_of(standing: u32, state: u32, finding: u32, place: usize, mark: u32) -> Asked
+    ensures { λ r. ⌜ r ≡ askedOf standing state finding place mark ⌝ }
 {
-    let standing = standing_at(g, i);
-    let mark = g.marks[i];
-    let state = g.states[i];
     if state == 1 {
-        let finding = g.codes[i];
-        let place = g.places[i];
         return Asked {
             code: 0,
             standing,
@@ -306,6 +301,14 @@ fn ask_at(g: Register, i: usize) -> Asked
         place: 0,
         mark,
     }
+}
+
+fn ask_at(g: Register, i: usize) -> Asked
+    requires { ⌜ (g .rows ≤ maxSize) × (i < g .rows) ⌝ }
+    ensures { λ r. ⌜ r ≡ askAt g i ⌝ }
+{
+    let standing = standing_at(g, i);
+    asked_of(standing, g.states[i], g.codes[i], g.places[i], g.marks[i])
 }
 
 // A row's standing, finding, place and mark.

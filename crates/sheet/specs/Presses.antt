@@ -4,7 +4,7 @@ use mathlib.Core.List.{List, [], _∷_, _++_}
 use mathlib.Core.Bool.{cond}
 use lib.ListN.{getD, set}
 use lib.Dec.{eqb}
-use Rattle.register.specs.Calls.{gate, told}
+use Rattle.register.specs.Calls.{gate, askedOf}
 use Rattle.register.specs.Model.{ackCode}
 use Rattle.register.specs.declared.Register.{Register}
 use Rattle.register.specs.declared.Asked.{Asked}
@@ -28,10 +28,7 @@ module _ (standings : List ℕ) (rows : ℕ) where
 
 -- what asking row i gives, by these standings and marks
 unfoldable pub askedBy : Register → (standings marks : List ℕ) → ℕ → Asked
-askedBy g standings marks i =
-    told 0 (getD standings i 0) (cond (eqb (getD (g .states) i 0) 1) (getD (g .codes) i 0) 0)
-    (cond (eqb (getD (g .states) i 0) 1) (getD (g .places) i 0) 0)
-    (getD marks i 0)
+askedBy g standings marks i = askedOf (getD standings i 0) (getD (g .states) i 0) (getD (g .codes) i 0) (getD (g .places) i 0) (getD marks i 0)
 
 -- the lines of k rows, from row i on
 unfoldable pub rowsBy : Register → (standings marks : List ℕ) → (k i : ℕ) → List ℕ

@@ -24,27 +24,7 @@ fn asked_by(g: Register, standings: &[u32], marks: &[u32], i: usize) -> Asked
     requires { ⌜ (g .rows ≤ maxSize) × (i < g .rows) × (g .rows ≤ length (now standings)) × (g .rows ≤ length (now marks)) ⌝ }
     ensures { λ r. ⌜ r ≡ askedBy g (now (standings .entry)) (now (marks .entry)) i ⌝ }
 {
-    let standing = standings[i];
-    let mark = marks[i];
-    let state = g.states[i];
-    if state == 1 {
-        let finding = g.codes[i];
-        let place = g.places[i];
-        return Asked {
-            code: 0,
-            standing,
-            finding,
-            place,
-            mark,
-        };
-    }
-    Asked {
-        code: 0,
-        standing,
-        finding: 0,
-        place: 0,
-        mark,
-    }
+    register::asked_of(standings[i], g.states[i], g.codes[i], g.places[i], marks[i])
 }
 
 // The lines of all rows.
