@@ -50,26 +50,15 @@ fn show_node(node: Node) {
     text(b"\n");
 }
 
-// Whether a record is record i of the flat table.
-fn same(node: Node, table: &[u32], i: usize) -> bool {
-    if MAX_NODES <= i {
-        return false;
-    }
-    let k = 6 * i;
-    if table.len() < k + 6 {
-        return false;
-    }
-    if node.kind != table[k] || node.a != table[k + 1] || node.b != table[k + 2] {
-        return false;
-    }
-    node.children == table[k + 3] && node.at == table[k + 4] && node.after == table[k + 5]
-}
-
-fn blank(node: Node) -> bool {
-    if node.kind != 0 || node.a != 0 || node.b != 0 {
-        return false;
-    }
-    node.children == 0 && node.at == 0 && node.after == 0
+// A record's six numbers.
+fn six(node: Node) -> [u32; 6] {
+    let kind = node.kind;
+    let a = node.a;
+    let b = node.b;
+    let children = node.children;
+    let at = node.at;
+    let after = node.after;
+    [kind, a, b, children, at, after]
 }
 
 // The first index where the lists differ, or their length.
@@ -85,6 +74,25 @@ fn agree(left: &[u32], right: &[u32]) -> usize {
         i += 1;
     }
     i
+}
+
+// Whether a record is record i of the flat table.
+fn same(node: Node, table: &[u32], i: usize) -> bool {
+    if MAX_NODES <= i {
+        return false;
+    }
+    let k = 6 * i;
+    let end = k + 6;
+    if table.len() < end {
+        return false;
+    }
+    let numbers = six(node);
+    agree(&numbers, &table[k..end]) == 6
+}
+
+fn blank(node: Node) -> bool {
+    let numbers = six(node);
+    agree(&numbers, &[0; 6]) == 6
 }
 
 // How many records, of `nodes`, are those of the flat table, one after the other; the first twelve are printed.
