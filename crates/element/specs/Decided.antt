@@ -1,7 +1,7 @@
 -- Internal: the forms as the reader asks for them, of all places of a type or of a method at once. That they are the table's is a law
--- (proofs/Runs.antt).
+-- of the reader's (reader/proofs/Places.antt).
 use Prim.Native.Nat.{ℕ}
-use mathlib.Core.Bool.{Bool, true, false, cond}
+use mathlib.Core.Bool.{cond}
 use mathlib.Core.List.{List, _∷_}
 use Rattle.element.specs.declared.Place.{Place}
 use Rattle.element.specs.declared.Place.the-variants as Place
@@ -41,22 +41,6 @@ typeEntries p =
 
 unfoldable pub typeFormOf : Place → ℕ → Form
 typeFormOf p b = lookup (typeEntries p) b
-
--- the places of a type, but the first byte of a TypeSpec: there that is the form (proofs/Runs.antt)
-abbrev pub plain : Place → Bool
-plain Place.Type = true
-plain Place.Pointee = true
-plain Place.Param = true
-plain Place.RetType = true
-plain Place.Local = true
-plain Place.Pinned = true
-plain Place.TypeSpec = false
-plain Place.ModifiedSpec = true
-plain Place.FnPtrMethod = false
-plain Place.FieldSig = false
-plain Place.LocalVarSig = false
-plain Place.PropertySig = false
-plain Place.MethodDefSig = false
 
 -- the form in a place of a method; in any other no byte is a lead byte
 abbrev pub leadFormOf : Place → ℕ → Form

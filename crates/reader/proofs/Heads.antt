@@ -15,16 +15,13 @@ use Rattle.number.specs.declared.token.Counts.{Counts}
 use Rattle.number.proofs.Laws.{decoded}
 use Rattle.number.proofs.Checks.{checked-good, checked-onward, count-good}
 use Rattle.element.specs.Element.{within, allowed, formOf}
-use Rattle.element.specs.Decided.{leadFormOf, plain}
 use Rattle.element.specs.declared.Place.{Place}
-use Rattle.element.specs.declared.Place.the-variants as Place
 use Rattle.element.specs.declared.Form.{Form}
 use Rattle.element.specs.declared.Form.the-variants.{Refused, Leaf, Named, Variable, Wrap, Modified, Counted, Array, Instance, FnPtr, Callable, Generic}
-use Rattle.element.proofs.Runs.{inside, outside, in-plain}
+use Rattle.element.proofs.Runs.{inside, outside}
 use Rattle.grammar.specs.Limits.{maxNodes}
 use Rattle.grammar.specs.Table.{kindOf}
 use Rattle.reader.specs.Open.{codeOf, codeAt, opening, instanceOf, headOf, openOf, openCode, leading, leadForm, leadOf}
-use Rattle.reader.specs.Walk.{called}
 use Rattle.reader.specs.declared.open.Code.{Code}
 use Rattle.reader.specs.declared.open.Code.the-variants as Code
 use Rattle.reader.specs.declared.open.Open.{Open}
@@ -163,26 +160,6 @@ module _ (d : ℕ) (s : List ℕ) (p : Place) (at n : ℕ) (counts : Counts) (h 
       go : (t : Bool) → cond t (headOf f counts s (kindOf p (getD s at 0)) at) (Open.Shut 5 at) ≡ openCode (cond t (Code.Opens (getD s at 0) f) (Code.Shut 5)) counts s p at
       go true = refl
       go false = refl
-
--- in a place of a method the form is the lead byte's
-pub called-form : (p : Place) (b : ℕ) → called p ≡ true → leadFormOf p b ≡ formOf p b
-called-form Place.Type b h = cc
-called-form Place.Pointee b h = cc
-called-form Place.Param b h = cc
-called-form Place.RetType b h = cc
-called-form Place.Local b h = cc
-called-form Place.Pinned b h = cc
-called-form Place.TypeSpec b h = cc
-called-form Place.ModifiedSpec b h = cc
-called-form Place.FnPtrMethod b h = refl
-called-form Place.FieldSig b h = cc
-called-form Place.LocalVarSig b h = cc
-called-form Place.PropertySig b h = refl
-called-form Place.MethodDefSig b h = refl
-
--- in a place of a type the kind is the byte
-pub plain-kind : (p : Place) (b : ℕ) → plain p ≡ true → b ≡ kindOf p b
-plain-kind p b h = in-plain (λ q. b ≡ kindOf q b) refl refl refl refl refl refl refl p h
 
 -- ---- instance_at
 

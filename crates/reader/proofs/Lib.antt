@@ -1,4 +1,5 @@
 pub mod Stamp
+pub mod Places
 pub mod Opens
 pub mod Laws
 pub mod Steps

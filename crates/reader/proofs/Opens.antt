@@ -16,17 +16,16 @@ use Rattle.number.specs.declared.checked.Checked.{Checked}
 use Rattle.number.specs.declared.checked.Checked.the-variants.{Good, Bad}
 use Rattle.number.specs.declared.token.Counts.{Counts}
 use Rattle.element.specs.Element.{allowed, within, lookup, bare, leads, entries, formOf}
-use Rattle.element.specs.Decided.{plain}
 use Rattle.element.specs.declared.Place.{Place}
 use Rattle.element.specs.declared.Place.the-variants as Place
 use Rattle.element.specs.declared.Form.{Form}
 use Rattle.element.specs.declared.Form.the-variants.{Refused, Leaf, Named, Variable, Wrap, Modified, Counted, Array, Instance, FnPtr, Callable, Generic}
-use Rattle.element.proofs.Runs.{allForms, lookup-passes, in-plain}
+use Rattle.element.proofs.Runs.{allForms, lookup-passes}
 use Rattle.grammar.specs.Limits.{maxNodes}
 use Rattle.grammar.specs.Table.{kindOf, FIELD, LOCALS}
 use Rattle.grammar.specs.Judge.{Out, fault, done, bind, check, numbered, many, Reader, callable, array, body, opened, node}
 use Rattle.reader.specs.Open.{head, codeOf, codeAt, opening, instanceOf, headOf, openOf, openCode, leading, callOf, genericOf, leadForm, leadOf, leadCode}
-use Rattle.reader.specs.Walk.{called, series, recordOf}
+use Rattle.reader.specs.Walk.{plain, called, series, recordOf}
 use Rattle.reader.specs.declared.open.Head.{Head}
 use Rattle.reader.specs.declared.open.Code.{Code}
 use Rattle.reader.specs.declared.open.Code.the-variants as Code
@@ -34,6 +33,7 @@ use Rattle.reader.specs.declared.open.Open.{Open}
 use Rattle.reader.specs.declared.open.Open.the-variants as Open
 use Rattle.reader.specs.declared.open.Lead.{Lead}
 use Rattle.reader.specs.declared.open.Lead.the-variants as Lead
+use Rattle.reader.proofs.Places.{in-plain}
 
 -- ---- how outcomes are put together
 

@@ -13,7 +13,6 @@ use Rattle.number.specs.Checked.{checkedAt, countAt}
 use Rattle.number.specs.declared.checked.Checked.{Checked}
 use Rattle.number.specs.declared.checked.Checked.the-variants.{Good, Bad}
 use Rattle.number.specs.declared.token.Counts.{Counts}
-use Rattle.element.specs.Decided.{plain}
 use Rattle.element.specs.declared.Place.{Place}
 use Rattle.element.specs.declared.Place.the-variants as Place
 use Rattle.element.specs.declared.Form.{Form}
@@ -26,7 +25,7 @@ use Rattle.grammar.proofs.Bounds.{Ends, ends-many, ends-node}
 use Rattle.grammar.proofs.Sound.{Holds, holds}
 use Rattle.reader.specs.Answer.{answer, answerOf}
 use Rattle.reader.specs.Open.{head, codeAt, openOf, leading, callOf, genericOf, leadForm, leadOf, leadCode}
-use Rattle.reader.specs.Walk.{called, series, leaves, walkOf, Walked, Judged, smallOf, Sealed, arrayOf}
+use Rattle.reader.specs.Walk.{plain, called, series, leaves, walkOf, Walked, Judged, smallOf, Sealed, arrayOf}
 use Rattle.reader.specs.declared.open.Head.{Head}
 use Rattle.reader.specs.declared.open.Code.{Code}
 use Rattle.reader.specs.declared.open.Code.the-variants as Code

@@ -25,7 +25,23 @@ use Rattle.reader.specs.declared.walk.Walk.the-variants as Walk
 use Rattle.reader.specs.declared.walk.Shape.{Shape}
 use Rattle.reader.specs.declared.walk.Shape.the-variants as Shape
 
--- the places that a method reader reads, and those that a type reader reads
+-- the places that a type reader reads: those of a type, but the first byte of a TypeSpec
+abbrev pub plain : Place → Bool
+plain Place.Type = true
+plain Place.Pointee = true
+plain Place.Param = true
+plain Place.RetType = true
+plain Place.Local = true
+plain Place.Pinned = true
+plain Place.TypeSpec = false
+plain Place.ModifiedSpec = true
+plain Place.FnPtrMethod = false
+plain Place.FieldSig = false
+plain Place.LocalVarSig = false
+plain Place.PropertySig = false
+plain Place.MethodDefSig = false
+
+-- those that a method reader reads
 abbrev pub called : Place → Bool
 called Place.Type = false
 called Place.Pointee = false

@@ -124,8 +124,8 @@ fn report() -> String {
 fn sets() -> Vec<Set> {
     let mut sets = Vec::new();
     let lines = sample::load().unwrap_or_default();
-    let known = lines.iter().filter(|line| line.case.kind < 5);
-    let (real, other): (Vec<_>, Vec<_>) = known.partition(|line| line.module < 8000);
+    let known: Vec<_> = lines.iter().filter(|line| line.case.kind < 5).collect();
+    let (real, other): (Vec<_>, Vec<_>) = known.iter().partition(|line| line.module < 8000);
     let names = [
         "TypeSpec",
         "FieldSig",
@@ -146,6 +146,7 @@ fn sets() -> Vec<Set> {
     }
     add("real, all kinds".into(), cases(&real));
     add("sample's made and changed".into(), cases(&other));
+    add("the whole sample".into(), cases(&known));
     for length in [4, 16, 64, 256, 1024, 4096] {
         add(format!("made, {length} bytes"), of_length(length));
     }

@@ -1,7 +1,8 @@
 -- `reader::open::lead_at` meets its contract. Assumes nothing.
 use mathlib.Core.Path.{_∙_}
 use borrow.Author.Needs.{needs}
-use Rattle.reader.proofs.Heads.{lead-none, called-form, code-some, lead-shut, lead-form}
+use Rattle.reader.proofs.Heads.{lead-none, code-some, lead-shut, lead-form}
+use Rattle.reader.proofs.Places.{called-form}
 use Rattle.reader.proofs.open.lead_at.Statement.{statement}
 use Rattle.reader.proofs.open.lead_at.Tie as tie
 

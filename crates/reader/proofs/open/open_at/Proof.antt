@@ -1,8 +1,8 @@
 -- `reader::open::open_at` meets its contract. Assumes nothing.
 use mathlib.Core.Path.{_∙_}
 use borrow.Author.Needs.{needs}
-use Rattle.element.proofs.Runs.{type-form}
-use Rattle.reader.proofs.Heads.{open-none, open-deep, open-full, open-some, plain-kind}
+use Rattle.reader.proofs.Heads.{open-none, open-deep, open-full, open-some}
+use Rattle.reader.proofs.Places.{type-form, plain-kind}
 use Rattle.reader.proofs.open.open_at.Statement.{statement}
 use Rattle.reader.proofs.open.open_at.Tie as tie
 

@@ -8,10 +8,9 @@ use mathlib.Core.Logic.{⊎-elim}
 use native.Mathlib.Omega.{arith}
 use lib.ListN.{length}
 use borrow.Author.Needs.{needs}
-use Rattle.element.specs.Decided.{plain}
 use Rattle.grammar.specs.Judge.{node}
 use Rattle.grammar.proofs.Bounds.{ends-node}
-use Rattle.reader.specs.Walk.{series, Walked}
+use Rattle.reader.specs.Walk.{plain, series, Walked}
 use Rattle.reader.specs.declared.walk.Walk.{Walk}
 use Rattle.reader.proofs.Laws.{found, walked-as, walked-length, walked-next, series-stop, series-next, series-end, array-stop, array-cut, array-small, array-done}
 use Rattle.reader.proofs.Steps.{type-stop, leaf-bounds, leaf-done, pointer-bounds, pointer-small, pointer-done, all-bounds, all-small, all-done, array-bounds, array-node, one-walked, method-stop, method-bounds, method-small, method-done}
