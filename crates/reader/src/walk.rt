@@ -149,7 +149,7 @@ fn bounds_at(
     let mut e = at;
     let mut m = n;
     while 0 < left {
-        match bound_at(out, d, src, kind, e, m) {
+        match bound_at(out, d, &*src, kind, e, m) {
             Walk::Next { at: e2, node: m2 } => {
                 e = e2;
                 m = m2;
@@ -174,8 +174,8 @@ fn shape_at(out: &mut [u32], d: usize, src: &[u8], kind: u32, at: usize, n: usiz
             Checked::Good {
                 value: sizes,
                 next: at3,
-            } => match bounds_at(out, d, src, SIZE, sizes, at3, n) {
-                Walk::Next { at: e, node: m } => lows_at(out, d, src, kind, rank, sizes, e, m),
+            } => match bounds_at(out, d, &*src, SIZE, sizes, at3, n) {
+                Walk::Next { at: e, node: m } => lows_at(out, d, &*src, kind, rank, sizes, e, m),
                 Walk::Stop { code, place } => Shape::Stop { code, place },
             },
             Checked::Bad { code } => Shape::Stop { code, place: at2 },
@@ -199,7 +199,7 @@ fn lows_at(
     ensures { λ r. ⌜ Shaped (lowsOf d (now (src .entry)) kind rank sizes at n) n r (now (out .entry)) (now (out .exit)) ⌝ }
 {
     match number::checked::count_at(src, at, 0, rank) {
-        Checked::Good { value: lows, next } => match bounds_at(out, d, src, LOW, lows, next, n) {
+        Checked::Good { value: lows, next } => match bounds_at(out, d, &*src, LOW, lows, next, n) {
             Walk::Next { at: e, node: m } => Shape::Done {
                 head: Head {
                     kind,
@@ -229,7 +229,7 @@ fn type_at(
     requires { ⌜ (length (now src) ≤ 4096) × (plain place ≡ true) ⌝ }
     ensures { λ r. ⌜ Walked (node d (now (src .entry)) counts place at n) n r (now (out .entry)) (now (out .exit)) ⌝ }
 {
-    types_at(out, d, src, counts, place, place, 1, at, n)
+    types_at(out, d, &*src, counts, place, place, 1, at, n)
 }
 
 // A method: its return type and its parameters are types again.
@@ -251,7 +251,7 @@ fn method_at(
             let w = types_at(
                 out,
                 d - 1,
-                src,
+                &*src,
                 counts,
                 Place::RetType,
                 Place::Param,
@@ -294,15 +294,15 @@ fn types_at(
                 seal(out, m, head, e, leaf)
             }
             Open::Method { head, next } => {
-                let method = method_at(out, d - 1, src, counts, Place::FnPtrMethod, next, m + 1);
+                let method = method_at(out, d - 1, &*src, counts, Place::FnPtrMethod, next, m + 1);
                 seal(out, m, head, e, method)
             }
             Open::All { head, child, next } => {
                 let k = head.children;
-                let all = types_at(out, d - 1, src, counts, child, child, k, next, m + 1);
+                let all = types_at(out, d - 1, &*src, counts, child, child, k, next, m + 1);
                 seal(out, m, head, e, all)
             }
-            Open::Array { kind } => array_at(out, d - 1, src, counts, kind, e, m),
+            Open::Array { kind } => array_at(out, d - 1, &*src, counts, kind, e, m),
         };
         match w {
             Walk::Next { at: e2, node: m2 } => {
@@ -330,8 +330,8 @@ fn array_at(
     requires { ⌜ (length (now src) ≤ 4096) × (at < length (now src)) × (n < 1024) ⌝ }
     ensures { λ r. ⌜ Walked (arrayOf d (now (src .entry)) counts kind at n) n r (now (out .entry)) (now (out .exit)) ⌝ }
 {
-    match type_at(out, d, src, counts, Place::Type, at + 1, n + 1) {
-        Walk::Next { at: e, node: m } => match shape_at(out, d, src, kind, e, m) {
+    match type_at(out, d, &*src, counts, Place::Type, at + 1, n + 1) {
+        Walk::Next { at: e, node: m } => match shape_at(out, d, &*src, kind, e, m) {
             Shape::Done {
                 head,
                 at: e2,
@@ -359,7 +359,7 @@ fn spec_at(out: &mut [u32], counts: Counts, src: &[u8]) -> Walk
     match open::code_of(form, first, 0, MAX_DEPTH) {
         Code::Shut { code } => Walk::Stop { code, place: 0 },
         Code::Opens { byte: _, form: _ } => {
-            type_at(out, MAX_DEPTH, src, counts, Place::ModifiedSpec, 0, 0)
+            type_at(out, MAX_DEPTH, &*src, counts, Place::ModifiedSpec, 0, 0)
         }
     }
 }
@@ -377,7 +377,7 @@ fn field_at(out: &mut [u32], counts: Counts, src: &[u8]) -> Walk
     match open::code_of(form, first, 0, MAX_DEPTH) {
         Code::Shut { code } => Walk::Stop { code, place: 0 },
         Code::Opens { byte: _, form: _ } => {
-            let w = type_at(out, MAX_DEPTH - 1, src, counts, Place::Type, 1, 1);
+            let w = type_at(out, MAX_DEPTH - 1, &*src, counts, Place::Type, 1, 1);
             let head = Head {
                 kind: FIELD,
                 a: 0,
@@ -406,7 +406,7 @@ fn locals_at(out: &mut [u32], counts: Counts, src: &[u8]) -> Walk
                 let w = types_at(
                     out,
                     MAX_DEPTH - 1,
-                    src,
+                    &*src,
                     counts,
                     Place::Local,
                     Place::Local,
@@ -436,8 +436,8 @@ fn root_at(out: &mut [u32], kind: u32, counts: Counts, src: &[u8]) -> Walk
         0 => spec_at(out, counts, src),
         1 => field_at(out, counts, src),
         2 => locals_at(out, counts, src),
-        3 => method_at(out, MAX_DEPTH, src, counts, Place::PropertySig, 0, 0),
-        _ => method_at(out, MAX_DEPTH, src, counts, Place::MethodDefSig, 0, 0),
+        3 => method_at(out, MAX_DEPTH, &*src, counts, Place::PropertySig, 0, 0),
+        _ => method_at(out, MAX_DEPTH, &*src, counts, Place::MethodDefSig, 0, 0),
     }
 }
 

@@ -108,7 +108,7 @@ fn emit_at(out: &mut [u8], d: usize, table: &[u32], at: usize, n: usize) -> Emit
     }
     let node = record_at(table, n);
     if node.kind == ARRAY {
-        return array_at(out, d - 1, table, node, at, n + 1);
+        return array_at(out, d - 1, &*table, node, at, n + 1);
     }
     let e = front_to(out, node, at);
     if out.len() < e {
@@ -117,7 +117,7 @@ fn emit_at(out: &mut [u8], d: usize, table: &[u32], at: usize, n: usize) -> Emit
     if node.children == 0 {
         return Emit::Next { at: e, node: n + 1 };
     }
-    all_at(out, d - 1, table, node.children, e, n + 1)
+    all_at(out, d - 1, &*table, node.children, e, n + 1)
 }
 
 // An ARRAY: its type, then Rank, NumSizes and the sizes, then NumLoBounds and the low bounds.
@@ -126,14 +126,14 @@ fn array_at(out: &mut [u8], d: usize, table: &[u32], node: Node, at: usize, n: u
     ensures { λ r. ⌜ Emits (parts (emit d (now (table .entry))) (partsOf array node) n) at r (now (out .entry)) (now (out .exit)) ⌝ }
 {
     let first = number_to(out, node.kind, at);
-    match all_at(out, d, table, 1, first, n) {
+    match all_at(out, d, &*table, 1, first, n) {
         Emit::Next { at: e, node: m } => {
             let sizes = pair_to(out, node.a, node.b, e);
-            match all_at(out, d, table, node.b, sizes, m) {
+            match all_at(out, d, &*table, node.b, sizes, m) {
                 Emit::Next { at: e2, node: m2 } => {
                     let lows = less(less(node.children, 1), node.b);
                     let then = number_to(out, lows, e2);
-                    all_at(out, d, table, lows, then, m2)
+                    all_at(out, d, &*table, lows, then, m2)
                 }
                 Emit::Stop => Emit::Stop,
             }
@@ -154,7 +154,7 @@ pub fn all_at(out: &mut [u8], d: usize, table: &[u32], count: u32, at: usize, n:
     let mut e = at;
     let mut m = n;
     while 0 < left {
-        match emit_at(out, d, table, e, m) {
+        match emit_at(out, d, &*table, e, m) {
             Emit::Next { at: e2, node: m2 } => {
                 e = e2;
                 m = m2;
