@@ -17,7 +17,7 @@ use Rattle.grammar.specs.declared.Node.{Node}
 use Rattle.grammar.proofs.Sound.{Holds, holds}
 use Rattle.grammar.proofs.Bounds.{Ends, ends-many, ends-bound, ends-array, ends-node}
 use Rattle.reader.specs.Walk.{putOf, stamp, leaves, walkOf, Walked, series, recordOf, smallOf, sealsOf, Sealed, ShapeOut, cut, shaped, shapeNumber, shapePrepend, shapeThen, lowsOf, shapeOf, shapeResult, shapeLeaves, Shaped, arrayOf}
-use Rattle.reader.specs.declared.open.Head.{Head}
+use Rattle.opening.specs.declared.Head.{Head}
 use Rattle.reader.specs.declared.walk.Walk.{Walk}
 use Rattle.reader.specs.declared.walk.Walk.the-variants.{Next, Stop}
 use Rattle.reader.specs.declared.walk.Shape.{Shape}

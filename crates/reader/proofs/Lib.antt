@@ -1,9 +1,7 @@
 pub mod Stamp
-pub mod Places
 pub mod Opens
 pub mod Laws
 pub mod Steps
-pub mod Heads
 pub mod Passes
 pub mod Tables
 pub mod Theorems

@@ -24,16 +24,17 @@ use Rattle.element.proofs.Runs.{allForms, lookup-passes}
 use Rattle.grammar.specs.Limits.{maxNodes}
 use Rattle.grammar.specs.Table.{kindOf, FIELD, LOCALS}
 use Rattle.grammar.specs.Judge.{Out, fault, done, bind, check, numbered, many, Reader, callable, array, body, opened, node}
-use Rattle.reader.specs.Open.{head, codeOf, codeAt, opening, instanceOf, headOf, openOf, openCode, leading, callOf, genericOf, leadForm, leadOf, leadCode}
-use Rattle.reader.specs.Walk.{plain, called, series, recordOf}
-use Rattle.reader.specs.declared.open.Head.{Head}
-use Rattle.reader.specs.declared.open.Code.{Code}
-use Rattle.reader.specs.declared.open.Code.the-variants as Code
-use Rattle.reader.specs.declared.open.Open.{Open}
-use Rattle.reader.specs.declared.open.Open.the-variants as Open
-use Rattle.reader.specs.declared.open.Lead.{Lead}
-use Rattle.reader.specs.declared.open.Lead.the-variants as Lead
-use Rattle.reader.proofs.Places.{in-plain}
+use Rattle.opening.specs.Open.{head, codeOf, codeAt, opening, instanceOf, headOf, openOf, openCode, leading, callOf, genericOf, leadForm, leadOf, leadCode}
+use Rattle.reader.specs.Walk.{series, recordOf}
+use Rattle.opening.specs.Sorts.{plain, called}
+use Rattle.opening.specs.declared.Head.{Head}
+use Rattle.opening.specs.declared.Code.{Code}
+use Rattle.opening.specs.declared.Code.the-variants as Code
+use Rattle.opening.specs.declared.Open.{Open}
+use Rattle.opening.specs.declared.Open.the-variants as Open
+use Rattle.opening.specs.declared.Lead.{Lead}
+use Rattle.opening.specs.declared.Lead.the-variants as Lead
+use Rattle.opening.proofs.Places.{in-plain}
 
 -- ---- how outcomes are put together
 

@@ -24,20 +24,21 @@ use Rattle.grammar.specs.Judge.{Out, fault, done, bind, check, many, bound, nod
 use Rattle.grammar.proofs.Bounds.{Ends, ends-many, ends-node}
 use Rattle.grammar.proofs.Sound.{Holds, holds}
 use Rattle.reader.specs.Answer.{answer, answerOf}
-use Rattle.reader.specs.Open.{head, codeAt, openOf, leading, callOf, genericOf, leadForm, leadOf, leadCode}
-use Rattle.reader.specs.Walk.{plain, called, series, leaves, walkOf, Walked, Judged, smallOf, Sealed, arrayOf}
-use Rattle.reader.specs.declared.open.Head.{Head}
-use Rattle.reader.specs.declared.open.Code.{Code}
-use Rattle.reader.specs.declared.open.Code.the-variants as Code
-use Rattle.reader.specs.declared.open.Open.{Open}
-use Rattle.reader.specs.declared.open.Open.the-variants as Open
-use Rattle.reader.specs.declared.open.Lead.{Lead}
-use Rattle.reader.specs.declared.open.Lead.the-variants as Lead
+use Rattle.opening.specs.Open.{head, codeAt, openOf, leading, callOf, genericOf, leadForm, leadOf, leadCode}
+use Rattle.reader.specs.Walk.{series, leaves, walkOf, Walked, Judged, smallOf, Sealed, arrayOf}
+use Rattle.opening.specs.Sorts.{plain, called}
+use Rattle.opening.specs.declared.Head.{Head}
+use Rattle.opening.specs.declared.Code.{Code}
+use Rattle.opening.specs.declared.Code.the-variants as Code
+use Rattle.opening.specs.declared.Open.{Open}
+use Rattle.opening.specs.declared.Open.the-variants as Open
+use Rattle.opening.specs.declared.Lead.{Lead}
+use Rattle.opening.specs.declared.Lead.the-variants as Lead
 use Rattle.reader.specs.declared.walk.Walk.{Walk}
 use Rattle.reader.specs.declared.walk.Walk.the-variants.{Next, Stop}
 use Rattle.reader.proofs.Stamp.{length-stamp}
 use Rattle.reader.proofs.Opens.{sealed, bind-sealed, many-one, series-same, onOpen, onLead, Begun, begun, code-begun, Begins, node-open, open-begins, node-lead, node-shut, spec-node, field-node, locals-node}
-use Rattle.reader.proofs.Heads.{code-none}
+use Rattle.opening.proofs.Heads.{code-none}
 use Rattle.reader.proofs.Laws.{clash, walked-fault, walked-is, still, walked-seal, walked-small}
 
 -- ---- bound_at. y is what the call gave, and its contract says that it is `checkedAt`

@@ -17,45 +17,13 @@ use Rattle.grammar.specs.Table.{entry, SIZE, LOW, six}
 use Rattle.grammar.specs.Judge.{Out, fault, done, bind, many, bound, array, node}
 use Rattle.grammar.specs.declared.Node.{Node}
 use Rattle.reader.specs.Answer.{answerOf}
-use Rattle.reader.specs.Open.{head}
+use Rattle.opening.specs.Open.{head}
 use Rattle.reader.specs.declared.Answer.{Answer}
-use Rattle.reader.specs.declared.open.Head.{Head}
+use Rattle.opening.specs.declared.Head.{Head}
 use Rattle.reader.specs.declared.walk.Walk.{Walk}
 use Rattle.reader.specs.declared.walk.Walk.the-variants as Walk
 use Rattle.reader.specs.declared.walk.Shape.{Shape}
 use Rattle.reader.specs.declared.walk.Shape.the-variants as Shape
-
--- the places that a type reader reads: those of a type, but the first byte of a TypeSpec
-abbrev pub plain : Place → Bool
-plain Place.Type = true
-plain Place.Pointee = true
-plain Place.Param = true
-plain Place.RetType = true
-plain Place.Local = true
-plain Place.Pinned = true
-plain Place.TypeSpec = false
-plain Place.ModifiedSpec = true
-plain Place.FnPtrMethod = false
-plain Place.FieldSig = false
-plain Place.LocalVarSig = false
-plain Place.PropertySig = false
-plain Place.MethodDefSig = false
-
--- those that a method reader reads
-abbrev pub called : Place → Bool
-called Place.Type = false
-called Place.Pointee = false
-called Place.Param = false
-called Place.RetType = false
-called Place.Local = false
-called Place.Pinned = false
-called Place.TypeSpec = false
-called Place.ModifiedSpec = false
-called Place.FnPtrMethod = true
-called Place.FieldSig = false
-called Place.LocalVarSig = false
-called Place.PropertySig = true
-called Place.MethodDefSig = true
 
 -- ---- the table
 

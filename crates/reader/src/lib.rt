@@ -6,7 +6,6 @@ ghost use Rattle.grammar.specs.Judge.{judge as judgement, reading};
 ghost use Rattle.reader.specs.Answer.{answerOf, tableOf};
 use number::token::Counts;
 
-mod open;
 pub mod table;
 mod walk;
 

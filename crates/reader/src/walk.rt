@@ -7,14 +7,9 @@ ghost use lib.ListN.{length};
 ghost use Rattle.element.specs.declared.Place.the-variants as Place;
 ghost use Rattle.grammar.specs.Judge.{judge, node, many, bound};
 ghost use Rattle.grammar.specs.Kinds.{rootOf};
-ghost use Rattle.reader.specs.Walk.{putOf, smallOf, Sealed, Walked, Shaped, lowsOf, shapeOf, arrayOf, plain, called, series, Judged};
+ghost use Rattle.reader.specs.Walk.{putOf, smallOf, Sealed, Walked, Shaped, lowsOf, shapeOf, arrayOf, series, Judged};
+ghost use Rattle.opening.specs.Sorts.{plain, called};
 use crate::Answer;
-use crate::open;
-use crate::open::Code;
-use crate::open::Head;
-use crate::open::Lead;
-use crate::open::MAX_NUMBER;
-use crate::open::Open;
 use element::Place;
 use grammar::MAX_BYTES;
 use grammar::MAX_DEPTH;
@@ -24,6 +19,11 @@ use grammar::MAX_RANK;
 use grammar::Node;
 use number::checked::Checked;
 use number::token::Counts;
+use opening::Code;
+use opening::Head;
+use opening::Lead;
+use opening::MAX_NUMBER;
+use opening::Open;
 
 const FIELD: u32 = 0x101;
 
@@ -245,7 +245,7 @@ fn method_at(
     requires { ⌜ (length (now src) ≤ 4096) × (called place ≡ true) ⌝ }
     ensures { λ r. ⌜ Walked (node d (now (src .entry)) counts place at n) n r (now (out .entry)) (now (out .exit)) ⌝ }
 {
-    match open::lead_at(src, place, at, n, d) {
+    match opening::lead_at(src, place, at, n, d) {
         Lead::Shut { code, place: p } => Walk::Stop { code, place: p },
         Lead::Go { head, next } => {
             let w = types_at(
@@ -284,7 +284,7 @@ fn types_at(
     let mut m = n;
     let mut p = place;
     while 0 < left {
-        let w = match open::open_at(src, counts, p, e, m, d) {
+        let w = match opening::open_at(src, counts, p, e, m, d) {
             Open::Shut { code, place: q } => Walk::Stop { code, place: q },
             Open::Leaf { head, next } => {
                 let leaf = Walk::Next {
@@ -356,7 +356,7 @@ fn spec_at(out: &mut [u32], counts: Counts, src: &[u8]) -> Walk
     }
     let first = src[0];
     let form = element::type_spec_form(first);
-    match open::code_of(form, first, 0, MAX_DEPTH) {
+    match opening::code_of(form, first, 0, MAX_DEPTH) {
         Code::Shut { code } => Walk::Stop { code, place: 0 },
         Code::Opens { byte: _, form: _ } => {
             type_at(out, MAX_DEPTH, &*src, counts, Place::ModifiedSpec, 0, 0)
@@ -374,7 +374,7 @@ fn field_at(out: &mut [u32], counts: Counts, src: &[u8]) -> Walk
     }
     let first = src[0];
     let form = element::field_sig_form(first);
-    match open::code_of(form, first, 0, MAX_DEPTH) {
+    match opening::code_of(form, first, 0, MAX_DEPTH) {
         Code::Shut { code } => Walk::Stop { code, place: 0 },
         Code::Opens { byte: _, form: _ } => {
             let w = type_at(out, MAX_DEPTH - 1, &*src, counts, Place::Type, 1, 1);
@@ -399,7 +399,7 @@ fn locals_at(out: &mut [u32], counts: Counts, src: &[u8]) -> Walk
     }
     let first = src[0];
     let form = element::local_var_sig_form(first);
-    match open::code_of(form, first, 0, MAX_DEPTH) {
+    match opening::code_of(form, first, 0, MAX_DEPTH) {
         Code::Shut { code } => Walk::Stop { code, place: 0 },
         Code::Opens { byte: _, form: _ } => match number::checked::count_at(src, 1, 1, MAX_NUMBER) {
             Checked::Good { value, next } => {

@@ -10,7 +10,8 @@ use lib.ListN.{length}
 use borrow.Author.Needs.{needs}
 use Rattle.grammar.specs.Judge.{node}
 use Rattle.grammar.proofs.Bounds.{ends-node}
-use Rattle.reader.specs.Walk.{plain, series, Walked}
+use Rattle.reader.specs.Walk.{series, Walked}
+use Rattle.opening.specs.Sorts.{plain}
 use Rattle.reader.specs.declared.walk.Walk.{Walk}
 use Rattle.reader.proofs.Laws.{found, walked-as, walked-length, walked-next, series-stop, series-next, series-end, array-stop, array-cut, array-small, array-done}
 use Rattle.reader.proofs.Steps.{type-stop, leaf-bounds, leaf-done, pointer-bounds, pointer-small, pointer-done, all-bounds, all-small, all-done, array-bounds, array-node, one-walked, method-stop, method-bounds, method-small, method-done}
@@ -28,8 +29,8 @@ use Rattle.reader.proofs.walk.+array_at+method_at+type_at+types_at.Lts-
 use Rattle.reader.proofs.walk.types_at.Reads as types-at
 use Rattle.reader.proofs.walk.types_at.Kinds as types-at-kinds
 use Rattle.reader.proofs.walk.+array_at+method_at+type_at+types_at.Lts-types_at as types-at-lts
-use Rattle.reader.proofs.open.lead_at.Reads as lead-at-reads
-use Rattle.reader.proofs.open.open_at.Reads as open-at-reads
+use Rattle.opening.proofs.lead_at.Reads as lead-at-reads
+use Rattle.opening.proofs.open_at.Reads as open-at-reads
 use Rattle.reader.proofs.walk.seal.Reads as seal-reads
 use Rattle.reader.proofs.walk.shape_at.Reads as shape-at-reads
 use Rattle.reader.proofs.walk.+array_at+method_at+type_at+types_at.{statement}

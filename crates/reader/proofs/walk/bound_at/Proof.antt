@@ -2,7 +2,7 @@
 use borrow.Author.Needs.{needs}
 use native.Mathlib.Omega.{arith}
 use Rattle.reader.proofs.Steps.{bound-bad, bound-deep, bound-full, bound-done}
-use Rattle.reader.proofs.Heads.{number-here}
+use Rattle.opening.proofs.Heads.{number-here}
 use Rattle.reader.proofs.walk.bound_at.Statement.{statement}
 use Rattle.reader.proofs.walk.bound_at.Tie as tie
 

@@ -3,7 +3,7 @@ use borrow.Author.Needs.{needs}
 use native.Mathlib.Omega.{arith}
 use Rattle.reader.specs.Walk.{lowsOf}
 use Rattle.reader.proofs.Laws.{ends-bounds, shaped-here, shape-bad, shape-good, shape-halt, shape-then}
-use Rattle.reader.proofs.Heads.{count-most}
+use Rattle.opening.proofs.Heads.{count-most}
 use Rattle.reader.proofs.walk.lows_at.Statement.{statement}
 use Rattle.reader.proofs.walk.lows_at.Tie as tie
 

@@ -1,7 +1,7 @@
 -- `reader::walk::spec_at` meets its contract. Assumes nothing.
 use mathlib.Core.Path.{refl}
 use native.Mathlib.Omega.{arith}
-use Rattle.reader.proofs.Heads.{code-first}
+use Rattle.opening.proofs.Heads.{code-first}
 use Rattle.reader.proofs.Steps.{root-none, root-stop, spec-done}
 use borrow.Author.Needs.{needs}
 use Rattle.reader.proofs.walk.spec_at.Statement.{statement}
