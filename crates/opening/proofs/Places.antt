@@ -80,21 +80,25 @@ module _ (p : Place) (h : plain p ≡ true) where
         go false e false e01 false e10 false e16 true e45 = at-one 0x45 e45 at-45
         go false e false e01 false e10 false e16 false e45 = bare-alone e e01 e10 e16 e45
 
+-- what holds in each of the places of a method
+pub in-called : (P : Place → Type 0) → P Place.FnPtrMethod → P Place.PropertySig → P Place.MethodDefSig → (p : Place) → called p ≡ true → P p
+in-called P f q m Place.Type h = let z : _≡_ {A = ℕ} 0 1 = cc in absurd (omega arith)
+in-called P f q m Place.Pointee h = let z : _≡_ {A = ℕ} 0 1 = cc in absurd (omega arith)
+in-called P f q m Place.Param h = let z : _≡_ {A = ℕ} 0 1 = cc in absurd (omega arith)
+in-called P f q m Place.RetType h = let z : _≡_ {A = ℕ} 0 1 = cc in absurd (omega arith)
+in-called P f q m Place.Local h = let z : _≡_ {A = ℕ} 0 1 = cc in absurd (omega arith)
+in-called P f q m Place.Pinned h = let z : _≡_ {A = ℕ} 0 1 = cc in absurd (omega arith)
+in-called P f q m Place.TypeSpec h = let z : _≡_ {A = ℕ} 0 1 = cc in absurd (omega arith)
+in-called P f q m Place.ModifiedSpec h = let z : _≡_ {A = ℕ} 0 1 = cc in absurd (omega arith)
+in-called P f q m Place.FnPtrMethod h = f
+in-called P f q m Place.FieldSig h = let z : _≡_ {A = ℕ} 0 1 = cc in absurd (omega arith)
+in-called P f q m Place.LocalVarSig h = let z : _≡_ {A = ℕ} 0 1 = cc in absurd (omega arith)
+in-called P f q m Place.PropertySig h = q
+in-called P f q m Place.MethodDefSig h = m
+
 -- in a place of a method the form is the lead byte's
 pub called-form : (p : Place) (b : ℕ) → called p ≡ true → leadFormOf p b ≡ formOf p b
-called-form Place.Type b h = cc
-called-form Place.Pointee b h = cc
-called-form Place.Param b h = cc
-called-form Place.RetType b h = cc
-called-form Place.Local b h = cc
-called-form Place.Pinned b h = cc
-called-form Place.TypeSpec b h = cc
-called-form Place.ModifiedSpec b h = cc
-called-form Place.FnPtrMethod b h = refl
-called-form Place.FieldSig b h = cc
-called-form Place.LocalVarSig b h = cc
-called-form Place.PropertySig b h = refl
-called-form Place.MethodDefSig b h = refl
+called-form p b h = in-called (λ q. leadFormOf q b ≡ formOf q b) refl refl refl p h
 
 -- in a place of a type the kind is the byte
 pub plain-kind : (p : Place) (b : ℕ) → plain p ≡ true → b ≡ kindOf p b

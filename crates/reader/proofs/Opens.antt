@@ -34,7 +34,7 @@ use Rattle.opening.specs.declared.Open.{Open}
 use Rattle.opening.specs.declared.Open.the-variants as Open
 use Rattle.opening.specs.declared.Lead.{Lead}
 use Rattle.opening.specs.declared.Lead.the-variants as Lead
-use Rattle.opening.proofs.Places.{in-plain}
+use Rattle.opening.proofs.Places.{in-plain, in-called}
 
 -- ---- how outcomes are put together
 
@@ -200,20 +200,11 @@ methodic Callable = true
 methodic Generic = true
 
 methodic-form : (p : Place) (b : ℕ) → called p ≡ true → methodic (formOf p b) ≡ true
-unfolding formOf entries bare leads
-methodic-form Place.Type b e = cc
-methodic-form Place.Pointee b e = cc
-methodic-form Place.Param b e = cc
-methodic-form Place.RetType b e = cc
-methodic-form Place.Local b e = cc
-methodic-form Place.Pinned b e = cc
-methodic-form Place.TypeSpec b e = cc
-methodic-form Place.ModifiedSpec b e = cc
-methodic-form Place.FnPtrMethod b e = lookup-passes methodic (entries Place.FnPtrMethod) b refl refl
-methodic-form Place.FieldSig b e = cc
-methodic-form Place.LocalVarSig b e = cc
-methodic-form Place.PropertySig b e = lookup-passes methodic (entries Place.PropertySig) b refl refl
-methodic-form Place.MethodDefSig b e = lookup-passes methodic (entries Place.MethodDefSig) b refl refl
+unfolding formOf entries leads
+methodic-form p b h = in-called (λ q. methodic (formOf q b) ≡ true) (passes Place.FnPtrMethod refl) (passes Place.PropertySig refl) (passes Place.MethodDefSig refl) p h
+  where
+    passes : (q : Place) → allForms methodic (entries q) ≡ true → methodic (lookup (entries q) b) ≡ true
+    passes q e = lookup-passes methodic (entries q) b refl e
 
 body-lead : (read : Reader) (d : ℕ) (s : List ℕ) (counts : Counts) (kind b at n : ℕ) (f : Form) → methodic f ≡ true
     → body read d s counts kind b at n f ≡ onLead (leadForm f s kind b at) read counts at n

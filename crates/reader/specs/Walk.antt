@@ -1,7 +1,7 @@
 -- What the walk's functions give and leave in the table, by the judge's outcomes. Internal: an auditor goes by Answer.antt and the judge.
 use Prim.Native.Nat.{ℕ, zero, suc, _+_, _*_, _≤_}
 use mathlib.Core.Path.{_≡_}
-use mathlib.Core.Bool.{Bool, true, false, cond}
+use mathlib.Core.Bool.{cond}
 use mathlib.Core.List.{List, [], _∷_, _++_}
 use lib.ListN.{length}
 use lib.Seq.{sets}
@@ -10,8 +10,6 @@ use Rattle.number.specs.Checked.{countAt}
 use Rattle.number.specs.declared.checked.Checked.{Checked}
 use Rattle.number.specs.declared.checked.Checked.the-variants.{Good, Bad}
 use Rattle.number.specs.declared.token.Counts.{Counts}
-use Rattle.element.specs.declared.Place.{Place}
-use Rattle.element.specs.declared.Place.the-variants as Place
 use Rattle.grammar.specs.Limits.{maxRank}
 use Rattle.grammar.specs.Table.{entry, SIZE, LOW, six}
 use Rattle.grammar.specs.Judge.{Out, fault, done, bind, many, bound, array, node}
