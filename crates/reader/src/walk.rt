@@ -1,5 +1,6 @@
 // The walk over a blob: one cycle of calls over the depth left, with the lent table written inside it. A node's record is put once,
-// after its children are read, where it fits; so the same walk judges, on an empty part of the table, and fills.
+// after its children are read, where it fits; so the same walk judges, on an empty part of the table, and fills. A slice is passed on as
+// a reborrow, `&*src`, which the compiler keeps in registers where it copies `src` through memory.
 ghost use mathlib.Core.Path.{_≡_};
 ghost use mathlib.Core.Bool.{true};
 ghost use Prim.Native.Nat.{_+_, _≤_, _<_};

@@ -1,4 +1,5 @@
 // The bytes of a node table, from its records alone. Nothing of the table is trusted: what is emitted counts only once it was judged.
+// Slices are passed on as reborrows, for speed, as in the reader's walk.
 ghost use mathlib.Core.Path.{_≡_};
 ghost use mathlib.Core.List.{[], _∷_};
 ghost use Prim.Native.Nat.{_+_, _-_, _*_, _≤_};
