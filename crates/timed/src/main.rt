@@ -1,4 +1,4 @@
-// Runs a job that the benchmark times: 10,000 numbers of one byte read 1,000 times, or a register of 64 rows asked 64,000 times. Prints a sum
+// Runs a job that the benchmark times: 10,000 numbers of one byte read 10,000 times, or a register of 64 rows asked 64,000 times. Prints a sum
 // over what the calls answered, so that none can be left out.
 mod jobs;
 

@@ -5,10 +5,10 @@ use Rattle.timed.proofs.jobs.numbers.Statement.{statement}
 use Rattle.timed.proofs.jobs.numbers.Tie as tie
 
 abbrev Inv-loop : tie.InvT-loop
-Inv-loop bytes sum₀ counter₀ sum counter = counter ≤ 1000
+Inv-loop bytes sum₀ counter₀ sum counter = counter ≤ 10000
 
 abbrev μ-loop : tie.MeasureT-loop
-μ-loop bytes sum₀ counter₀ sum counter = 1000 - counter
+μ-loop bytes sum₀ counter₀ sum counter = 10000 - counter
 
 pub numbers-spec : {M : Type 1} → statement M
 numbers-spec =
