@@ -1,5 +1,5 @@
 -- Internal: the forms as the reader asks for them, of all places of a type or of a method at once. That they are the table's is a law
--- of the reader's (reader/proofs/Places.antt).
+-- of the reader's (opening/proofs/Places.antt).
 use Prim.Native.Nat.{ℕ}
 use mathlib.Core.Bool.{cond}
 use mathlib.Core.List.{List, _∷_}

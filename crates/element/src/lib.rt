@@ -292,7 +292,8 @@ fn where_allowed(place: Place, b: u8, form: Form) -> Form
     Form::Refused
 }
 
-// What follows the code byte `b` in a place of a type, decided by the byte first: what Bare allows means the same in all of them.
+// What follows the code byte `b` in a place of a type, decided by the byte first: what Bare allows means the same in all of them. Bare's arms
+// stand here again, since one match is one jump; with a call of `bare_form` behind it the reader is slower.
 pub fn type_form_of(place: Place, b: u8) -> Form
     ensures { λ r. ⌜ r ≡ typeFormOf place b ⌝ }
 {

@@ -25,7 +25,7 @@ fn same_numbers(a: &[u32], b: &[u32]) -> bool
     equal
 }
 
-// The same, with the records that the blob is read into lent.
+// `has_table`, with the records that the blob is read into lent.
 fn has_table_in(seen: &mut [u32], kind: u32, counts: Counts, blob: &[u8], table: &[u32]) -> bool
     requires { ⌜ length (now table) ≤ length (now seen) ⌝ }
     ensures { λ r. ⌜ r ≡ isTable (now (table .entry)) (judge kind counts (now (blob .entry))) ⌝ }
