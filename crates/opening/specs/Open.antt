@@ -1,4 +1,4 @@
--- What the code finds between a node's first byte and its children, as definitions that the judge's are shown to be (proofs/Opens.antt).
+-- What the code finds between a node's first byte and its children, as definitions that the judge's are shown to be (crate `walk`, Opens.antt).
 -- Internal: an auditor goes by the judge.
 use Prim.Native.Nat.{ℕ, _+_}
 use mathlib.Core.Bool.{cond}

@@ -13,10 +13,11 @@ use Rattle.grammar.specs.Judge.{Out, fault, done, bind, check, judge, reading}
 use Rattle.grammar.proofs.Sound.{Holds, holds}
 use Rattle.grammar.proofs.Bounds.{Ends, ends-judge}
 use Rattle.grammar.proofs.Refusals.{judge-refuses}
+use Rattle.walk.specs.Walk.{leaves}
+use Rattle.walk.proofs.Stamp.{stamp-flat}
 use Rattle.reader.specs.Answer.{answer, answerOf, tableOf}
-use Rattle.reader.specs.Walk.{leaves, Judged}
+use Rattle.reader.specs.Blob.{Judged}
 use Rattle.reader.specs.declared.Answer.{Answer}
-use Rattle.reader.proofs.Stamp.{stamp-flat}
 
 -- what read answers and leaves, of any outcome of the judge
 abbrev lending : ℕ → Out → Out

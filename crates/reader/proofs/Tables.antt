@@ -19,10 +19,11 @@ use Rattle.grammar.proofs.Sound.{Holds, holds}
 use Rattle.grammar.proofs.Bounds.{Ends, ends-judge}
 use Rattle.grammar.proofs.Refusals.{judge-refuses}
 use Rattle.grammar.proofs.Emits.{length-flat}
+use Rattle.walk.specs.Walk.{stamp, leaves}
+use Rattle.walk.proofs.Stamp.{stamp-flat}
 use Rattle.reader.specs.Answer.{answerOf}
-use Rattle.reader.specs.Walk.{stamp, leaves, Judged}
+use Rattle.reader.specs.Blob.{Judged}
 use Rattle.reader.specs.declared.Answer.{Answer}
-use Rattle.reader.proofs.Stamp.{stamp-flat}
 
 -- ---- the same up to i
 

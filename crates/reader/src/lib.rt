@@ -6,8 +6,8 @@ ghost use Rattle.grammar.specs.Judge.{judge as judgement, reading};
 ghost use Rattle.reader.specs.Answer.{answerOf, tableOf};
 use number::token::Counts;
 
+mod blob;
 pub mod table;
-mod walk;
 
 // The panel's number and its place: 0 with the number of nodes, or a refusal.
 pub struct Answer {
@@ -20,14 +20,14 @@ pub fn judge(kind: u32, counts: Counts, blob: &[u8]) -> Answer
     ensures { λ r. ⌜ r ≡ answerOf (judgement kind counts (now (blob .entry))) ⌝ }
 {
     let mut none = [0u32; 1];
-    walk::blob_at(&mut none[..0], kind, counts, blob)
+    blob::blob_at(&mut none[..0], kind, counts, blob)
 }
 
 // Reads a blob into the table that is lent, six numbers to a record. A refusal leaves the table as it was.
 pub fn read(kind: u32, counts: Counts, blob: &[u8], table: &mut [u32]) -> Answer
     ensures { λ r. ⌜ (r ≡ answerOf (reading kind counts (now (blob .entry)) (length (now (table .entry)) / 6))) × (now (table .exit) ≡ tableOf (reading kind counts (now (blob .entry)) (length (now (table .entry)) / 6)) (now (table .entry))) ⌝ }
 {
-    let judged = walk::blob_at(&mut table[..0], kind, counts, blob);
+    let judged = blob::blob_at(&mut table[..0], kind, counts, blob);
     let code = judged.code;
     let nodes = judged.place;
     if code != 0 {
@@ -39,5 +39,5 @@ pub fn read(kind: u32, counts: Counts, blob: &[u8], table: &mut [u32]) -> Answer
             place: nodes,
         };
     }
-    walk::blob_at(table, kind, counts, blob)
+    blob::blob_at(table, kind, counts, blob)
 }

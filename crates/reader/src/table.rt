@@ -4,7 +4,7 @@ ghost use Prim.Native.Nat.{_≤_};
 ghost use lib.ListN.{length};
 ghost use Rattle.grammar.specs.Judge.{judge};
 ghost use Rattle.grammar.specs.Writer.{same, isTable};
-use crate::walk;
+use crate::blob;
 use number::token::Counts;
 
 // Compares to the end, in any case: a loop without an exit is compiled to wide instructions.
@@ -30,7 +30,7 @@ fn has_table_in(seen: &mut [u32], kind: u32, counts: Counts, blob: &[u8], table:
     requires { ⌜ length (now table) ≤ length (now seen) ⌝ }
     ensures { λ r. ⌜ r ≡ isTable (now (table .entry)) (judge kind counts (now (blob .entry))) ⌝ }
 {
-    let answer = walk::blob_at(seen, kind, counts, blob);
+    let answer = blob::blob_at(seen, kind, counts, blob);
     let code = answer.code;
     let nodes = answer.place;
     if code != 0 {

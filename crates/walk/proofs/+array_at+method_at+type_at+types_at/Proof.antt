@@ -1,0 +1,216 @@
+-- The cycle of calls of the walk: a type, a method, an array, and some types one after the other. The depth left falls.
+-- Assumes nothing.
+use Prim.Native.Nat.{ℕ, _+_, _*_, _<_}
+use mathlib.Core.Path.{_≡_, refl, _∙_}
+use mathlib.Core.Bool.{true}
+use mathlib.Core.List.{List}
+use mathlib.Core.Logic.{⊎-elim}
+use native.Mathlib.Omega.{arith}
+use lib.ListN.{length}
+use borrow.Author.Needs.{needs}
+use Rattle.grammar.specs.Judge.{node}
+use Rattle.grammar.proofs.Bounds.{ends-node}
+use Rattle.walk.specs.Walk.{series, Walked}
+use Rattle.opening.specs.Sorts.{plain}
+use Rattle.walk.specs.declared.Walk.{Walk}
+use Rattle.walk.proofs.Laws.{found, walked-as, walked-length, walked-next, series-stop, series-next, series-end, array-stop, array-cut, array-small, array-done}
+use Rattle.walk.proofs.Steps.{type-stop, leaf-bounds, leaf-done, pointer-bounds, pointer-small, pointer-done, all-bounds, all-small, all-done, array-bounds, array-node, one-walked, method-stop, method-bounds, method-small, method-done}
+use borrow.Fn.Kinds.{In}
+use borrow.Fn.PlainCycle.{Measures, is, falls, and}
+use Rattle.walk.proofs.array_at.Reads as array-at
+use Rattle.walk.proofs.array_at.Kinds as array-at-kinds
+use Rattle.walk.proofs.+array_at+method_at+type_at+types_at.Lts-array_at as array-at-lts
+use Rattle.walk.proofs.method_at.Reads as method-at
+use Rattle.walk.proofs.method_at.Kinds as method-at-kinds
+use Rattle.walk.proofs.+array_at+method_at+type_at+types_at.Lts-method_at as method-at-lts
+use Rattle.walk.proofs.type_at.Reads as type-at
+use Rattle.walk.proofs.type_at.Kinds as type-at-kinds
+use Rattle.walk.proofs.+array_at+method_at+type_at+types_at.Lts-type_at as type-at-lts
+use Rattle.walk.proofs.types_at.Reads as types-at
+use Rattle.walk.proofs.types_at.Kinds as types-at-kinds
+use Rattle.walk.proofs.+array_at+method_at+type_at+types_at.Lts-types_at as types-at-lts
+use Rattle.opening.proofs.lead_at.Reads as lead-at-reads
+use Rattle.opening.proofs.open_at.Reads as open-at-reads
+use Rattle.walk.proofs.seal.Reads as seal-reads
+use Rattle.walk.proofs.shape_at.Reads as shape-at-reads
+use Rattle.walk.proofs.+array_at+method_at+type_at+types_at.{statement}
+use Rattle.walk.proofs.+array_at+method_at+type_at+types_at.Tie.{close}
+
+abbrev μ-array-at : Measures 2 array-at-kinds.ps ℕ
+μ-array-at κs a = 3 * (a .1 .0) + 2
+
+abbrev μ-method-at : Measures 2 method-at-kinds.ps ℕ
+μ-method-at κs a = 3 * (a .1 .0)
+
+abbrev μ-type-at : Measures 2 type-at-kinds.ps ℕ
+μ-type-at κs a = 3 * (a .1 .0) + 1
+
+abbrev μ-types-at : Measures 2 types-at-kinds.ps ℕ
+μ-types-at κs a = 3 * (a .1 .0)
+
+abbrev array-at-at : ℕ → In 2 array-at-kinds.ps
+array-at-at t = and 2 array-at-kinds.ps (is 2 array-at-kinds.ps μ-array-at t) array-at.Pre
+
+abbrev array-at-below : ℕ → In 2 array-at-kinds.ps
+array-at-below t = and 2 array-at-kinds.ps (falls 2 array-at-kinds.ps _<_ μ-array-at t) array-at.Pre
+
+abbrev method-at-at : ℕ → In 2 method-at-kinds.ps
+method-at-at t = and 2 method-at-kinds.ps (is 2 method-at-kinds.ps μ-method-at t) method-at.Pre
+
+abbrev method-at-below : ℕ → In 2 method-at-kinds.ps
+method-at-below t = and 2 method-at-kinds.ps (falls 2 method-at-kinds.ps _<_ μ-method-at t) method-at.Pre
+
+abbrev type-at-at : ℕ → In 2 type-at-kinds.ps
+type-at-at t = and 2 type-at-kinds.ps (is 2 type-at-kinds.ps μ-type-at t) type-at.Pre
+
+abbrev type-at-below : ℕ → In 2 type-at-kinds.ps
+type-at-below t = and 2 type-at-kinds.ps (falls 2 type-at-kinds.ps _<_ μ-type-at t) type-at.Pre
+
+abbrev types-at-at : ℕ → In 2 types-at-kinds.ps
+types-at-at t = and 2 types-at-kinds.ps (is 2 types-at-kinds.ps μ-types-at t) types-at.Pre
+
+abbrev types-at-below : ℕ → In 2 types-at-kinds.ps
+types-at-below t = and 2 types-at-kinds.ps (falls 2 types-at-kinds.ps _<_ μ-types-at t) types-at.Pre
+
+-- whatever ends the rest from here ends the whole
+abbrev types-at-Inv-loop : types-at-lts.InvT-loop
+types-at-Inv-loop out₀ d src counts then count at n left₀ e₀ m₀ p₀ out left e m p = (length out ≡ length out₀) × (plain p ≡ true) × ((r : Walk) (fin : List ℕ) → Walked (series (node d src counts p) (node d src counts then) left e m) m r out fin → Walked (series (node d src counts p₀) (node d src counts then) count at n) n r out₀ fin)
+
+abbrev types-at-μ-loop : types-at-lts.MeasureT-loop
+types-at-μ-loop out₀ d src counts then count at n left₀ e₀ m₀ p₀ out left e m p = left
+
+-- the loop where the arms of its match have met
+abbrev Read : ℕ → Type 0
+Read t =
+    types-at-lts.At-match-came (
+      open-at-reads.Asked,
+      open-at-reads.Learnt,
+      seal-reads.Asked,
+      seal-reads.Learnt,
+      method-at-below t,
+      method-at.Post,
+      types-at-below t,
+      types-at.Post,
+      array-at-below t,
+      array-at.Post,
+    )
+    (types-at-at t)
+    types-at.Post
+    types-at-Inv-loop
+    types-at-μ-loop
+
+-- one type of the loop
+abbrev Item : (t : ℕ) → Read t → Type 0
+Item t c =
+    Walked (node (c .before .before .before .before .before .before .args .d) (c .before .before .before .before .before .before .args .src .now) (c .before .before .before .before .before .before .args .counts) (c .before .before .before .loop .p) (c .before .before .before .loop .e) (c .before .before .before .loop .m)) (c .before .before .before .loop .m) (c .match .w) (c .before .before .before .loop .out) (c .match .out)
+
+-- by what stood before its children
+types-at-item : (t : ℕ) (c : Read t) → Item t c
+types-at-item t c =
+    let p = c .before .before .before .loop .inv .1 in
+    let q = c .before .open-at .ensures in
+    ⊎-elim {C = Item t c} (λ x. walked-as _ _ _ _ _ _ _ (x .3) (x .4) (type-stop _ _ _ _ _ _ p _ q _ _ _ (x .1 .given .1)))
+    (⊎-elim {C = Item t c} (λ x. walked-as _ _ _ _ _ _ _ (x .7) (x .8) (leaf-done _ _ _ _ _ _ p _ q _ _ (x .1 .given .1) _ _ _ (x .4 .ensures)))
+    (⊎-elim {C = Item t c} (λ x. walked-as _ _ _ _ _ _ _ (x .11) (x .12) (pointer-done _ _ _ _ _ _ p _ q _ _ (x .1 .given .1) _ _ _ (x .4 .ensures) _ _ (x .8 .ensures)))
+    (⊎-elim {C = Item t c} (λ x. walked-as _ _ _ _ _ _ _ (x .11) (x .12) (all-done _ _ _ _ _ _ p _ q _ _ _ (x .1 .given .1) _ _ _ (x .4 .ensures) _ _ (x .8 .ensures)))
+    (λ x. walked-as _ _ _ _ _ _ _ (x .7) (x .8) (array-node _ _ _ _ _ _ p _ q _ (x .1 .given .1) _ _ _ (x .4 .ensures))))))
+    (c .match .came)
+
+pub +array-at+method-at+type-at+types-at-spec : {M : Type 1} → statement M
++array-at+method-at+type-at+types-at-spec =
+    close μ-array-at μ-method-at μ-type-at μ-types-at (λ t. array-at-lts.spec (
+      type-at-below t,
+      type-at.Post,
+      shape-at-reads.Asked,
+      shape-at-reads.Learnt,
+      seal-reads.Asked,
+      seal-reads.Learnt,
+    )
+    (array-at-at t)
+    array-at.Post
+    (λ c. search needs)
+    (λ c. search needs)
+    (λ c κs. (omega (arith, c .before .before .before .pre .0), (c .before .before .before .pre .1 .0, refl)))
+    (λ c. search needs)
+    (λ c κs. (c .before .before .before .before .before .before .before .before .before .before .pre .1 .0, walked-next _ _ _ _ _ _ (ends-node _ _ _ _ _ _) (found _ _ _ _ _ _ (c .before .before .e .given .1) (c .before .before .before .before .before .before .type-at .ensures))))
+    (λ c. search needs)
+    (λ c κs. (c .before .before .before .before .before .before .before .before .before .before .before .before .before .before .before .before .before .pre .1 .2, omega (arith, c .before .before .before .before .before .before .before .before .before .before .before .before .before .before .before .before .before .pre .1), omega (arith, array-small _ _ _ _ _ _ _ _ _ (c .before .before .before .before .before .before .before .before .before .before .before .before .before .type-at .ensures) _ _ (c .before .before .before .before .before .before .before .before .before .e .given .1) _ _ (c .before .before .before .before .before .before .shape-at .ensures) _ _ _ (c .before .before .head .given .1))))
+    (λ c. search needs)
+    (λ c. search needs)
+    (λ c. search needs)
+    (λ c. array-done _ _ _ _ _ _ _ _ _ (c .before .before .before .before .before .before .before .before .before .before .before .before .before .before .before .before .type-at .ensures) _ _ (c .before .before .before .before .before .before .before .before .before .before .before .before .e .given .1) _ _ (c .before .before .before .before .before .before .before .before .before .shape-at .ensures) _ _ _ (c .before .before .before .before .before .head .given .1) _ _ (c .before .before .seal .ensures))
+    (λ c. search needs)
+    (λ c. array-cut _ _ _ _ _ _ _ _ _ (c .before .before .before .before .before .before .before .before .before .before .before .before .type-at .ensures) _ _ (c .before .before .before .before .before .before .before .before .e .given .1) _ _ (c .before .before .before .before .before .shape-at .ensures) _ _ (c .before .code .given .1))
+    (λ c. search needs)
+    (λ c. array-stop _ _ _ (c .before .before .before .before .before .before .before .before .before .args .kind) _ _ _ _ _ (c .before .before .before .before .before .type-at .ensures) _ _ (c .before .code2 .given .1)))
+    (λ t. method-at-lts.spec (
+      lead-at-reads.Asked,
+      lead-at-reads.Learnt,
+      types-at-below t,
+      types-at.Post,
+      seal-reads.Asked,
+      seal-reads.Learnt,
+    )
+    (method-at-at t)
+    method-at.Post
+    (λ c κs. c .before .before .pre .1 .1)
+    (λ c. search needs)
+    (λ c. search needs)
+    (λ c. omega (arith, method-bounds _ _ _ _ _ _ (c .before .before .before .before .lead-at .ensures) _ _ (c .before .before .head .given .1)))
+    (λ c. omega (arith, method-bounds _ _ _ _ _ _ (c .before .before .before .before .lead-at .ensures) _ _ (c .before .before .head .given .1)))
+    (λ c κs. let b = method-bounds _ _ _ _ _ _ (c .before .before .before .before .lead-at .ensures) _ _ (c .before .before .head .given .1) in (omega (arith, b, c .before .before .before .before .before .before .before .pre .0), (c .before .before .before .before .before .before .before .pre .1 .0, refl, refl)))
+    (λ c κs. let b = method-bounds _ _ _ _ _ _ (c .before .before .before .before .before .before .before .before .lead-at .ensures) _ _ (c .before .before .before .before .before .before .head .given .1) in (b .2, omega (arith, b, c .before .before .before .before .before .before .before .before .before .before .before .pre .1 .0), method-small _ _ _ _ _ _ (c .before .before .before .before .before .before .before .before .before .before .before .pre .1 .1) _ (c .before .before .before .before .before .before .before .before .lead-at .ensures) _ _ (c .before .before .before .before .before .before .head .given .1) _ _ _ (c .before .before .before .types-at .ensures)))
+    (λ c. method-stop _ _ _ _ _ _ (c .before .before .before .before .before .before .pre .1 .1) _ (c .before .before .before .lead-at .ensures) _ _ _ (c .before .code .given .1))
+    (λ c. search needs)
+    (λ c. method-done _ _ _ _ _ _ (c .before .before .before .before .before .before .before .before .before .before .before .before .before .before .pre .1 .1) _ (c .before .before .before .before .before .before .before .before .before .before .before .lead-at .ensures) _ _ (c .before .before .before .before .before .before .before .before .before .head .given .1) _ _ _ (c .before .before .before .before .before .before .types-at .ensures) _ _ (c .before .before .seal .ensures)))
+    (λ t. type-at-lts.spec
+    (types-at-below t, types-at.Post)
+    (type-at-at t)
+    type-at.Post
+    (λ c κs. let q = c .before .before .before .pre .1 in (omega (arith, c .before .before .before .pre .0), (q .0, q .1, q .1)))
+    (λ c. search needs)
+    (λ c. one-walked _ _ _ _ _ _ (c .before .before .types-at .ensures)))
+    λ t. types-at-lts.spec (
+      open-at-reads.Asked,
+      open-at-reads.Learnt,
+      seal-reads.Asked,
+      seal-reads.Learnt,
+      method-at-below t,
+      method-at.Post,
+      types-at-below t,
+      types-at.Post,
+      array-at-below t,
+      array-at.Post,
+    )
+    (types-at-at t)
+    types-at.Post
+    types-at-Inv-loop
+    types-at-μ-loop
+    (λ c. (refl, c .before .before .pre .1 .1, λ r fin y. y))
+    (λ c κs. c .before .loop .inv .1)
+    (λ c. search needs)
+    (λ c. search needs)
+    (λ c. omega (arith, leaf-bounds _ _ _ _ _ _ (c .before .before .before .before .before .loop .inv .1) _ (c .before .before .before .open-at .ensures) _ _ (c .before .head .given .1)))
+    (λ c κs. omega (arith, leaf-bounds _ _ _ _ _ _ (c .before .before .before .before .before .before .loop .inv .1) _ (c .before .before .before .before .open-at .ensures) _ _ (c .before .before .head .given .1), c .before .before .before .before .before .before .before .before .before .pre .1 .0))
+    (λ c. search needs)
+    (λ c. omega (arith, pointer-bounds _ _ _ _ _ _ (c .before .before .before .before .before .before .loop .inv .1) _ (c .before .before .before .before .open-at .ensures) _ _ (c .before .before .head2 .given .1)))
+    (λ c. omega (arith, pointer-bounds _ _ _ _ _ _ (c .before .before .before .before .before .before .loop .inv .1) _ (c .before .before .before .before .open-at .ensures) _ _ (c .before .before .head2 .given .1)))
+    (λ c κs. let b = pointer-bounds _ _ _ _ _ _ (c .before .before .before .before .before .before .loop .inv .1) _ (c .before .before .before .before .open-at .ensures) _ _ (c .before .before .head2 .given .1) in (omega (arith, b, c .before .before .before .before .before .before .before .before .before .pre .0), (c .before .before .before .before .before .before .before .before .before .pre .1 .0, refl)))
+    (λ c κs. let b = pointer-bounds _ _ _ _ _ _ (c .before .before .before .before .before .before .before .before .before .before .loop .inv .1) _ (c .before .before .before .before .before .before .before .before .open-at .ensures) _ _ (c .before .before .before .before .before .before .head2 .given .1) in (b .2, omega (arith, b, c .before .before .before .before .before .before .before .before .before .before .before .before .before .pre .1 .0), pointer-small _ _ _ _ _ _ (c .before .before .before .before .before .before .before .before .before .before .loop .inv .1) _ (c .before .before .before .before .before .before .before .before .open-at .ensures) _ _ (c .before .before .before .before .before .before .head2 .given .1) _ _ _ (c .before .before .before .method-at .ensures)))
+    (λ c. search needs)
+    (λ c. omega (arith, all-bounds _ _ _ _ _ _ (c .before .before .before .before .before .before .loop .inv .1) _ (c .before .before .before .before .open-at .ensures) _ _ _ (c .before .before .head3 .given .1)))
+    (λ c. omega (arith, all-bounds _ _ _ _ _ _ (c .before .before .before .before .before .before .loop .inv .1) _ (c .before .before .before .before .open-at .ensures) _ _ _ (c .before .before .head3 .given .1)))
+    (λ c κs. let b = all-bounds _ _ _ _ _ _ (c .before .before .before .before .before .before .loop .inv .1) _ (c .before .before .before .before .open-at .ensures) _ _ _ (c .before .before .head3 .given .1) in (omega (arith, b, c .before .before .before .before .before .before .before .before .before .pre .0), (c .before .before .before .before .before .before .before .before .before .pre .1 .0, b .3, b .3)))
+    (λ c κs. let b = all-bounds _ _ _ _ _ _ (c .before .before .before .before .before .before .before .before .before .before .loop .inv .1) _ (c .before .before .before .before .before .before .before .before .open-at .ensures) _ _ _ (c .before .before .before .before .before .before .head3 .given .1) in (b .2, omega (arith, b, c .before .before .before .before .before .before .before .before .before .before .before .before .before .pre .1 .0), all-small _ _ _ _ _ _ (c .before .before .before .before .before .before .before .before .before .before .loop .inv .1) _ (c .before .before .before .before .before .before .before .before .open-at .ensures) _ _ _ (c .before .before .before .before .before .before .head3 .given .1) _ _ _ (c .before .before .before .types-at .ensures)))
+    (λ c. search needs)
+    (λ c. omega (arith, array-bounds _ _ _ _ _ _ (c .before .before .before .before .before .before .loop .inv .1) _ (c .before .before .before .before .open-at .ensures) _ (c .before .before .kind .given .1)))
+    (λ c κs. let b = array-bounds _ _ _ _ _ _ (c .before .before .before .before .before .before .loop .inv .1) _ (c .before .before .before .before .open-at .ensures) _ (c .before .before .kind .given .1) in (omega (arith, b, c .before .before .before .before .before .before .before .before .before .pre .0), (c .before .before .before .before .before .before .before .before .before .pre .1 .0, b .1, b .2)))
+    (λ c. search needs)
+    (λ c. search needs)
+    (λ c. let x = c .before .before .before in walked-length _ _ _ _ _ (types-at-item t x) ∙ x .before .before .before .loop .inv .0)
+    (λ c. let x = c .before .before .before in x .before .before .before .loop .inv .2 _ _ (series-stop _ _ _ _ _ _ _ _ (x .before .before .loop-test .taken) (types-at-item t x) _ _ (c .before .w2 .given .1)))
+    (λ c. search needs)
+    (λ c. search needs)
+    (λ c. let x = c .before .before .before in let l = x .before .before .before .loop in (walked-length _ _ _ _ _ (types-at-item t x) ∙ l .inv .0, x .before .before .before .before .before .before .pre .1 .2, λ r fin y. l .inv .2 r fin (series-next _ _ _ _ _ _ _ _ (x .before .before .loop-test .taken) (types-at-item t x) (ends-node _ _ _ _ _ _) _ _ (c .before .w .given .1) r fin y)))
+    (λ c. search needs)
+    (λ c. c .before .loop .inv .2 _ _ (series-end _ _ _ _ _ _ (c .loop-test .left)))

@@ -1,0 +1,4 @@
+pub mod Stamp
+pub mod Opens
+pub mod Laws
+pub mod Steps

@@ -1,0 +1,27 @@
+-- `walk::lows_at` meets its contract. Assumes nothing.
+use borrow.Author.Needs.{needs}
+use native.Mathlib.Omega.{arith}
+use Rattle.walk.specs.Walk.{lowsOf}
+use Rattle.walk.proofs.Laws.{ends-bounds, shaped-here, shape-bad, shape-good, shape-halt, shape-then}
+use Rattle.opening.proofs.Heads.{count-most}
+use Rattle.walk.proofs.lows_at.Statement.{statement}
+use Rattle.walk.proofs.lows_at.Tie as tie
+
+pub lows-at-spec : {M : Type 1} → statement M
+unfolding lowsOf
+lows-at-spec =
+    tie.close
+    (tie.spec
+    (λ c κs. search needs)
+    (λ c. search needs)
+    (λ c κs. search needs)
+    (λ c. search needs)
+    (λ c. search needs)
+    (λ c. omega (arith, count-most _ _ _ _ _ _ _ (c .before .before .before .before .before .before .before .before .before .before .count-at .ensures) (c .before .before .before .before .before .before .before .before .lows .given .1), c .before .before .before .before .before .before .before .before .before .before .before .before .before .pre))
+    (λ c. search needs)
+    (λ c. search needs)
+    (λ c. search needs)
+    (λ c. shape-good _ _ _ _ _ _ _ _ _ _ (c .before .before .before .before .before .before .before .before .before .before .count-at .ensures) (c .before .before .before .before .before .before .before .before .lows .given .1) (shape-then _ _ _ _ _ _ _ _ _ _ (ends-bounds (c .before .before .before .before .before .before .before .before .before .before .before .before .before .args .src .now) 0x105 (c .before .before .before .before .before .before .before .before .before .before .before .before .before .args .d) _ _ _ (c .before .before .before .before .before .before .before .before .before .before .before .before .before .pre .3)) (c .before .before .before .before .before .bounds-at .ensures) (c .before .e .given .1) (shaped-here _ _ _ _ _)))
+    (λ c. search needs)
+    (λ c. shape-good _ _ _ _ _ _ _ _ _ _ (c .before .before .before .before .before .before .before .before .before .before .count-at .ensures) (c .before .before .before .before .before .before .before .before .lows .given .1) (shape-halt _ _ _ _ _ _ _ _ (c .before .before .before .before .before .bounds-at .ensures) (c .before .code .given .1)))
+    (λ c. shape-bad _ _ _ _ _ _ _ (c .before .before .before .count-at .ensures) (c .before .code2 .given .1)))

@@ -1,0 +1,23 @@
+-- `walk::spec_at` meets its contract. Assumes nothing.
+use mathlib.Core.Path.{refl}
+use native.Mathlib.Omega.{arith}
+use Rattle.opening.proofs.Heads.{code-first}
+use Rattle.walk.proofs.Steps.{root-none, root-stop, spec-done}
+use borrow.Author.Needs.{needs}
+use Rattle.walk.proofs.spec_at.Statement.{statement}
+use Rattle.walk.proofs.spec_at.Tie as tie
+
+pub spec-at-spec : {M : Type 1} → statement M
+spec-at-spec =
+    tie.close
+    (tie.spec
+    (λ c. root-none _ _ _ _ 0 _ _ (omega (arith, c .if1 .taken)))
+    (λ c. search needs)
+    (λ c κs. search needs)
+    (λ c κs. search needs)
+    (λ c. search needs)
+    (λ c. search needs)
+    (λ c κs. (c .before .before .before .before .before .before .before .before .before .pre, refl))
+    (λ c. root-stop _ _ _ _ _ _ _ (code-first _ _ _ _ _ _ (c .before .before .before .before .before .before .if1 .left) (c .before .before .before .before .type-spec-form .ensures) (c .before .before .before .code-of .ensures)) _ _ (c .before .code .given .1))
+    (λ c. search needs)
+    (λ c. spec-done _ _ _ _ _ _ _ _ (c .before .before .before .before .enum-told .given .1) (code-first _ _ _ _ _ _ (c .before .before .before .before .before .before .before .before .before .if1 .left) (c .before .before .before .before .before .before .before .type-spec-form .ensures) (c .before .before .before .before .before .before .code-of .ensures)) _ _ _ (c .before .before .type-at .ensures)))
