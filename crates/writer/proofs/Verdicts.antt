@@ -17,11 +17,11 @@ use Rattle.grammar.specs.Emit.{Emitted, torn, wrote, times, emit, emitted}
 use Rattle.grammar.specs.Writer.{isTable, confirmed, writing}
 use Rattle.reader.specs.Answer as reader
 use Rattle.reader.specs.declared.Answer.{Answer}
+use Rattle.emission.specs.Emission.{resultOf, leavesOf, Emits}
+use Rattle.emission.specs.declared.Emit.{Emit}
+use Rattle.emission.specs.declared.Emit.the-variants.{Next, Stop}
+use Rattle.emission.proofs.Laws.{clash, Fit, fits, over, fit, emits-is, found, next-within, times-one}
 use Rattle.writer.specs.Written.{answerOf, outputOf}
-use Rattle.writer.specs.Emission.{resultOf, leavesOf, Emits}
-use Rattle.writer.specs.declared.emit.Emit.{Emit}
-use Rattle.writer.specs.declared.emit.Emit.the-variants.{Next, Stop}
-use Rattle.writer.proofs.Laws.{clash, Fit, fits, over, fit, emits-is, found, next-within, times-one}
 
 -- ---- copy_confirmed: s is the blob, o the output
 

@@ -7,13 +7,11 @@ ghost use lib.ListN.{length, drop};
 ghost use Rattle.grammar.specs.Emit.{wrote, emitted};
 ghost use Rattle.grammar.specs.Writer.{confirmed, writing};
 ghost use Rattle.writer.specs.Written.{answerOf, outputOf};
-use crate::emit::Emit;
+use emission::Emit;
 use grammar::MAX_DEPTH;
 use grammar::MAX_KIND;
 use number::token::Counts;
 use reader::Answer;
-
-mod emit;
 
 // Copies `src` to the front of `out`.
 fn copy_to(out: &mut [u8], src: &[u8])
@@ -47,13 +45,13 @@ fn write_known(kind: u32, counts: Counts, table: &[u32], out: &mut [u8]) -> Answ
 {
     if table.len() <= 96 {
         let mut few = [0u8; 128];
-        match emit::all_at(&mut few, MAX_DEPTH, table, 1, 0, 0) {
+        match emission::all_at(&mut few, MAX_DEPTH, table, 1, 0, 0) {
             Emit::Next { at, node } => return copy_confirmed(kind, counts, &few[..at], table, out),
             Emit::Stop => {}
         }
     }
     let mut blob = [0u8; 4096];
-    match emit::all_at(&mut blob, MAX_DEPTH, table, 1, 0, 0) {
+    match emission::all_at(&mut blob, MAX_DEPTH, table, 1, 0, 0) {
         Emit::Next { at, node } => copy_confirmed(kind, counts, &blob[..at], table, out),
         Emit::Stop => Answer { code: 14, place: 0 },
     }

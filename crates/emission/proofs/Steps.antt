@@ -11,10 +11,10 @@ use borrow.Author.Tests.{leb-false, eqb-true, eqb-false, le-leb, lt-leb, eq-eqb,
 use Rattle.grammar.specs.Table.{recordAt}
 use Rattle.grammar.specs.Emit.{Layout, plain, array, callable, layouts, layoutIn, layoutOf, lowsOf, partsOf, Emitted, torn, wrote, andThen, spell, times, parts, emit}
 use Rattle.grammar.specs.declared.Node.{Node}
-use Rattle.writer.specs.Emission.{frontOf, spelled, Spelt, followed, resultOf, Emits}
-use Rattle.writer.specs.declared.emit.Emit.{Emit}
-use Rattle.writer.specs.declared.emit.Emit.the-variants.{Next, Stop}
-use Rattle.writer.proofs.Laws.{clash, Fit, fits, over, fit, emits-torn, emits-stop, emits-next, emits-is, found, spell-rest, spelt-is, spelt-then}
+use Rattle.emission.specs.Emission.{frontOf, spelled, Spelt, followed, resultOf, Emits}
+use Rattle.emission.specs.declared.Emit.{Emit}
+use Rattle.emission.specs.declared.Emit.the-variants.{Next, Stop}
+use Rattle.emission.proofs.Laws.{clash, Fit, fits, over, fit, emits-torn, emits-stop, emits-next, emits-is, found, spell-rest, spelt-is, spelt-then}
 
 -- ---- call_to and front_to
 

@@ -1,8 +1,8 @@
--- `writer::emit::pair_to` meets its contract. Assumes nothing.
+-- `emission::pair_to` meets its contract. Assumes nothing.
 use borrow.Author.Needs.{needs}
-use Rattle.writer.proofs.Laws.{spelt-more}
-use Rattle.writer.proofs.emit.pair_to.Statement.{statement}
-use Rattle.writer.proofs.emit.pair_to.Tie as tie
+use Rattle.emission.proofs.Laws.{spelt-more}
+use Rattle.emission.proofs.pair_to.Statement.{statement}
+use Rattle.emission.proofs.pair_to.Tie as tie
 
 pub pair-to-spec : {M : Type 1} → statement M
 pair-to-spec =

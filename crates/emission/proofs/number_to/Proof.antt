@@ -1,10 +1,10 @@
--- `writer::emit::number_to` meets its contract. Assumes nothing.
+-- `emission::number_to` meets its contract. Assumes nothing.
 use borrow.Author.Needs.{needs}
 use native.Mathlib.Omega.{arith}
 use mathlib.Core.Path.{refl}
-use Rattle.writer.proofs.Laws.{number-cut, number-put}
-use Rattle.writer.proofs.emit.number_to.Statement.{statement}
-use Rattle.writer.proofs.emit.number_to.Tie as tie
+use Rattle.emission.proofs.Laws.{number-cut, number-put}
+use Rattle.emission.proofs.number_to.Statement.{statement}
+use Rattle.emission.proofs.number_to.Tie as tie
 
 pub number-to-spec : {M : Type 1} → statement M
 number-to-spec =

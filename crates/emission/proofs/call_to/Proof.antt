@@ -1,9 +1,9 @@
--- `writer::emit::call_to` meets its contract. Assumes nothing.
+-- `emission::call_to` meets its contract. Assumes nothing.
 use borrow.Author.Needs.{needs}
-use Rattle.writer.proofs.Laws.{spelt-is, spelt-more}
-use Rattle.writer.proofs.Steps.{call-plain, call-generic}
-use Rattle.writer.proofs.emit.call_to.Statement.{statement}
-use Rattle.writer.proofs.emit.call_to.Tie as tie
+use Rattle.emission.proofs.Laws.{spelt-is, spelt-more}
+use Rattle.emission.proofs.Steps.{call-plain, call-generic}
+use Rattle.emission.proofs.call_to.Statement.{statement}
+use Rattle.emission.proofs.call_to.Tie as tie
 
 pub call-to-spec : {M : Type 1} → statement M
 call-to-spec =

@@ -7,28 +7,28 @@ use native.Mathlib.Omega.{arith}
 use lib.ListN.{length}
 use borrow.Author.Needs.{needs}
 use Rattle.grammar.specs.Emit.{times, emit}
-use Rattle.writer.specs.Emission.{Emits}
-use Rattle.writer.specs.declared.emit.Emit.{Emit}
-use Rattle.writer.proofs.Laws.{found, emits-past, next-within, spelt-then, loop-stop, loop-more, loop-end}
-use Rattle.writer.proofs.Steps.{emit-deep, emit-past, emit-array, emit-part, emit-below, times-below, array-stop, sizes-stop, array-next}
+use Rattle.emission.specs.Emission.{Emits}
+use Rattle.emission.specs.declared.Emit.{Emit}
+use Rattle.emission.proofs.Laws.{found, emits-past, next-within, spelt-then, loop-stop, loop-more, loop-end}
+use Rattle.emission.proofs.Steps.{emit-deep, emit-past, emit-array, emit-part, emit-below, times-below, array-stop, sizes-stop, array-next}
 use borrow.Fn.Kinds.{In}
 use borrow.Fn.PlainCycle.{Measures, is, falls, and}
-use Rattle.writer.proofs.emit.all_at.Reads as all-at
-use Rattle.writer.proofs.emit.all_at.Kinds as all-at-kinds
-use Rattle.writer.proofs.emit.+all_at+array_at+emit_at.Lts-all_at as all-at-lts
-use Rattle.writer.proofs.emit.array_at.Reads as array-at
-use Rattle.writer.proofs.emit.array_at.Kinds as array-at-kinds
-use Rattle.writer.proofs.emit.+all_at+array_at+emit_at.Lts-array_at as array-at-lts
-use Rattle.writer.proofs.emit.emit_at.Reads as emit-at
-use Rattle.writer.proofs.emit.emit_at.Kinds as emit-at-kinds
-use Rattle.writer.proofs.emit.+all_at+array_at+emit_at.Lts-emit_at as emit-at-lts
-use Rattle.writer.proofs.emit.front_to.Reads as front-to-reads
-use Rattle.writer.proofs.emit.less.Reads as less-reads
-use Rattle.writer.proofs.emit.number_to.Reads as number-to-reads
-use Rattle.writer.proofs.emit.pair_to.Reads as pair-to-reads
-use Rattle.writer.proofs.emit.record_at.Reads as record-at-reads
-use Rattle.writer.proofs.emit.+all_at+array_at+emit_at.{statement}
-use Rattle.writer.proofs.emit.+all_at+array_at+emit_at.Tie.{close}
+use Rattle.emission.proofs.all_at.Reads as all-at
+use Rattle.emission.proofs.all_at.Kinds as all-at-kinds
+use Rattle.emission.proofs.+all_at+array_at+emit_at.Lts-all_at as all-at-lts
+use Rattle.emission.proofs.array_at.Reads as array-at
+use Rattle.emission.proofs.array_at.Kinds as array-at-kinds
+use Rattle.emission.proofs.+all_at+array_at+emit_at.Lts-array_at as array-at-lts
+use Rattle.emission.proofs.emit_at.Reads as emit-at
+use Rattle.emission.proofs.emit_at.Kinds as emit-at-kinds
+use Rattle.emission.proofs.+all_at+array_at+emit_at.Lts-emit_at as emit-at-lts
+use Rattle.emission.proofs.front_to.Reads as front-to-reads
+use Rattle.emission.proofs.less.Reads as less-reads
+use Rattle.emission.proofs.number_to.Reads as number-to-reads
+use Rattle.emission.proofs.pair_to.Reads as pair-to-reads
+use Rattle.emission.proofs.record_at.Reads as record-at-reads
+use Rattle.emission.proofs.+all_at+array_at+emit_at.{statement}
+use Rattle.emission.proofs.+all_at+array_at+emit_at.Tie.{close}
 
 abbrev μ-all-at : Measures 2 all-at-kinds.ps ℕ
 μ-all-at κs a = 3 * (a .1 .0) + 1

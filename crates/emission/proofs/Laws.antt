@@ -12,9 +12,9 @@ use borrow.Author.Tests.{leb-true, leb-false, le-leb, lt-leb}
 use Rattle.number.specs.Number.{encode, putAt}
 use Rattle.number.proofs.Encoding.{put-fits}
 use Rattle.grammar.specs.Emit.{Emitted, torn, wrote, andThen, spell, times}
-use Rattle.writer.specs.Emission.{spelled, Spelt, put, cut, followed, resultOf, leavesOf, Emits}
-use Rattle.writer.specs.declared.emit.Emit.{Emit}
-use Rattle.writer.specs.declared.emit.Emit.the-variants.{Next, Stop}
+use Rattle.emission.specs.Emission.{spelled, Spelt, put, cut, followed, resultOf, leavesOf, Emits}
+use Rattle.emission.specs.declared.Emit.{Emit}
+use Rattle.emission.specs.declared.Emit.the-variants.{Next, Stop}
 
 -- an emission does not both stop and go on
 pub clash : {X : Type 0} {e m : ℕ} → Stop ≡ Next e m → X

@@ -1,5 +1,5 @@
--- What the emitting functions give and leave, by the emission of grammar's definitions. Internal: an auditor goes by Written.antt and
--- grammar's `writing`.
+-- What the emitting functions give and leave, by the emission of grammar's definitions. Internal: an auditor goes by grammar's
+-- `writing` and the writer's Written.antt.
 use Prim.Native.Nat.{ℕ, _+_, _-_, _≤_, _<_}
 use mathlib.Core.Path.{_≡_}
 use mathlib.Core.Bool.{cond}
@@ -9,8 +9,8 @@ use lib.Seq.{sets}
 use lib.Dec.{leb, eqb}
 use Rattle.grammar.specs.Emit.{Layout, plain, valued, array, instance, callable, field, locals, bound, Emitted, torn, wrote, andThen, spell}
 use Rattle.grammar.specs.declared.Node.{Node}
-use Rattle.writer.specs.declared.emit.Emit.{Emit}
-use Rattle.writer.specs.declared.emit.Emit.the-variants.{Next, Stop}
+use Rattle.emission.specs.declared.Emit.{Emit}
+use Rattle.emission.specs.declared.Emit.the-variants.{Next, Stop}
 
 -- the numbers of a record's first part
 unfoldable pub frontOf : Layout → Node → List ℕ

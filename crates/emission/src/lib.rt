@@ -1,12 +1,12 @@
 // The bytes of a node table, from its records alone. Nothing of the table is trusted: what is emitted counts only once it was judged.
-// Slices are passed on as reborrows, for speed, as in the reader's walk.
+// Slices are passed on as reborrows, for speed, as in crate `walk`.
 ghost use mathlib.Core.Path.{_≡_};
 ghost use mathlib.Core.List.{[], _∷_};
 ghost use Prim.Native.Nat.{_+_, _-_, _*_, _≤_};
 ghost use lib.ListN.{length};
 ghost use Rattle.grammar.specs.Table.{recordAt};
 ghost use Rattle.grammar.specs.Emit.{array, callable, layoutOf, partsOf, times, parts, emit};
-ghost use Rattle.writer.specs.Emission.{frontOf, Spelt, Emits};
+ghost use Rattle.emission.specs.Emission.{frontOf, Spelt, Emits};
 use grammar::Node;
 
 const ARRAY: u32 = 0x14;

@@ -1,14 +1,14 @@
--- `writer::emit::front_to` meets its contract. Assumes nothing.
+-- `emission::front_to` meets its contract. Assumes nothing.
 use borrow.Author.Needs.{needs}
 use native.Mathlib.Omega.{arith}
 use mathlib.Core.Path.{refl}
 use mathlib.Core.Logic.{⊎-elim, inl, inr}
 use Rattle.grammar.specs.Emit.{layoutOf}
-use Rattle.writer.specs.Emission.{frontOf}
-use Rattle.writer.proofs.Laws.{spelt-more}
-use Rattle.writer.proofs.Steps.{front-three, front-bound, front-plain, spelt-front}
-use Rattle.writer.proofs.emit.front_to.Statement.{statement}
-use Rattle.writer.proofs.emit.front_to.Tie as tie
+use Rattle.emission.specs.Emission.{frontOf}
+use Rattle.emission.proofs.Laws.{spelt-more}
+use Rattle.emission.proofs.Steps.{front-three, front-bound, front-plain, spelt-front}
+use Rattle.emission.proofs.front_to.Statement.{statement}
+use Rattle.emission.proofs.front_to.Tie as tie
 
 pub front-to-spec : {M : Type 1} → statement M
 unfolding frontOf layoutOf
