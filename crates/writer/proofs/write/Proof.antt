@@ -1,5 +1,6 @@
 -- `writer::write` meets its contract. Assumes nothing.
 use borrow.Author.Needs.{needs}
+use native.Mathlib.Omega.{arith}
 use mathlib.Core.Path.{sym, _∙_}
 use Rattle.writer.proofs.Verdicts.{write-kind, write-rows, write-known}
 use Rattle.writer.proofs.write.Statement.{statement}
@@ -9,7 +10,7 @@ pub write-spec : {M : Type 1} → statement M
 write-spec =
     tie.close
     (tie.spec
-    (λ c. write-kind _ _ _ _ (c .if1 .taken))
+    (λ c. write-kind _ _ _ _ (omega (arith, c .if1 .taken)))
     (λ c κs. search needs)
     (λ c κs. search needs)
     (λ c. search needs)

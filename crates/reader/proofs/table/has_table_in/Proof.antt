@@ -14,7 +14,7 @@ has-table-in-spec =
     (λ c. has-not _ _ _ _ _ _ (c .before .before .before .blob-at .ensures) _ (c .if1 .taken))
     (λ c. let z = has-few _ _ _ _ _ _ (c .before .before .before .blob-at .ensures) (c .before .before .before .before .before .before .before .before .args .table .now) (c .if1 .left) in omega arith)
     (λ c. search needs)
-    (λ c. has-other _ _ _ _ _ _ (c .before .before .before .before .blob-at .ensures) _ (c .before .if1 .left) (c .if2 .taken))
+    (λ c. has-other _ _ _ _ _ _ (c .before .before .before .before .blob-at .ensures) _ (c .before .if1 .left) (λ e. omega (arith, c .if2 .taken)))
     (λ c. search needs)
     (λ c. part-length _ _ (omega (arith, c .before .before .before .before .before .blob-at .kept .0)))
     (λ c κs. search needs)
