@@ -1,6 +1,7 @@
 -- How walks are put together: their results, and what they leave in the table.
 -- Assumes nothing.
-use Prim.Native.Nat.{ℕ, zero, suc, _+_, _-_, _≤_, _<_}
+use Prim.Native.Nat.{ℕ, zero, suc, _+_, _-_, _*_, _≤_, _<_}
+use native.Mathlib.Nat.{suc-mul}
 use native.Mathlib.Omega.{arith}
 use mathlib.Core.Path.{_≡_, refl, sym, ap, subst, _∙_}
 use mathlib.Core.List.{List, [], _∷_, _++_, append-assoc, append-nil}
@@ -16,13 +17,13 @@ use Rattle.grammar.specs.Judge.{Out, fault, done, bind, numbered, many, bound, 
 use Rattle.grammar.specs.declared.Node.{Node}
 use Rattle.grammar.proofs.Sound.{Holds, holds}
 use Rattle.grammar.proofs.Bounds.{Ends, ends-many, ends-bound, ends-array, ends-node}
-use Rattle.walk.specs.Walk.{putOf, stamp, leaves, walkOf, Walked, series, recordOf, smallOf, sealsOf, Sealed, ShapeOut, cut, shaped, shapeNumber, shapePrepend, shapeThen, lowsOf, shapeOf, shapeResult, shapeLeaves, Shaped, arrayOf}
+use Rattle.walk.specs.Walk.{putOf, putAfter, closes, stamp, leaves, walkOf, Walked, series, recordOf, smallOf, sealsOf, Sealed, ShapeOut, cut, shaped, shapeNumber, shapePrepend, shapeThen, lowsOf, shapeOf, shapeResult, shapeLeaves, Shaped, arrayOf}
 use Rattle.opening.specs.declared.Head.{Head}
 use Rattle.walk.specs.declared.Walk.{Walk}
 use Rattle.walk.specs.declared.Walk.the-variants.{Next, Stop}
 use Rattle.walk.specs.declared.Shape.{Shape}
 use Rattle.walk.specs.declared.Shape.the-variants as Shape
-use Rattle.walk.proofs.Stamp.{length-stamp, stamp-append}
+use Rattle.walk.proofs.Stamp.{length-put, length-stamp, stamp-put, stamp-append, put-after}
 use Rattle.walk.proofs.Opens.{andThen, sealed, series-more, series-same}
 
 -- a walk does not both stop and go on
@@ -109,10 +110,76 @@ walked-next (done e₁ m₁ rs) n e m o₀ o₁ (holds g) h =
     let b : m ≡ m₁ = cc in
     omega (arith, g .0)
 
+-- the index before it
+pub walked-first : (o : Out) (n e m : ℕ) (o₀ o₁ : List ℕ) → Holds (Ends n) o → Walked o n (Next e m) o₀ o₁ → n ≤ maxNodes
+unfolding walkOf
+walked-first (fault c p) n e m o₀ o₁ g h = clash (sym (h .result))
+walked-first (done e₁ m₁ rs) n e m o₀ o₁ (holds g) h = omega (arith, g .0, g .1)
+
 pub walked-small : (o : Out) (n : ℕ) (w : Walk) (o₀ o₁ : List ℕ) → Holds (Ends n) o → Walked o n w o₀ o₁ → smallOf w
 unfolding walkOf
 walked-small (fault c p) n w o₀ o₁ g h = subst smallOf (sym (h .result)) tt
 walked-small (done e m rs) n w o₀ o₁ (holds g) h = subst smallOf (sym (h .result)) (omega (arith, g .0))
+
+-- ---- a node with one child: its record is put before the child is read, and corrected after
+
+module _ (o : Out) (n : ℕ) (h : Head) (at next : ℕ) (v w : Walk) (o₀ o₁ o₂ : List ℕ) (s : Sealed (Next next (n + 1)) n h at v o₀ o₁) (x : Walked o (n + 1) w o₁ o₂) where
+  put-first : o₁ ≡ putOf o₀ n (recordOf h at (n + 1))
+  unfolding sealsOf
+  put-first = s .left
+
+  pub link-stop : (c p : ℕ) → w ≡ Stop c p → Walked (sealed o h at) n (Stop c p) o₀ o₂
+  unfolding sealed walkOf leaves
+  link-stop c p g = stops o x
+    where
+      stops : (q : Out) → Walked q (n + 1) w o₁ o₂ → Walked (sealed q h at) n (Stop c p) o₀ o₂
+      stops (fault c′ p′) y = record { result = sym g ∙ y .result; left = y .left ∙ ap length put-first ∙ length-put o₀ n _ }
+      stops (done e m rs) y = clash (sym g ∙ y .result)
+
+  pub link-next : (e m : ℕ) → w ≡ Next e m → Walked (sealed o h at) n (Next e m) o₀ (putAfter o₂ n m)
+  unfolding sealed walkOf leaves stamp
+  link-next e m g = goes o x
+    where
+      goes : (q : Out) → Walked q (n + 1) w o₁ o₂ → Walked (sealed q h at) n (Next e m) o₀ (putAfter o₂ n m)
+      goes (fault c p) y = clash (sym (y .result) ∙ g)
+      goes (done e₁ m₁ rs) y =
+          let z : Next e m ≡ Next e₁ m₁ = sym g ∙ y .result in
+          let a : e ≡ e₁ = cc in
+          let b : m ≡ m₁ = cc in
+          record {
+            result = z;
+            left =
+                ap (λ (l : List ℕ). putAfter l n m) (y .left ∙ ap (stamp (n + 1) rs) put-first ∙ stamp-put rs n (n + 1) _ o₀ (omega arith))
+                ∙ put-after (stamp (n + 1) rs o₀) n (h .kind) (h .a) (h .b) (h .children) at (n + 1) m
+                ∙ ap (λ (k : ℕ). putOf (stamp (n + 1) rs o₀) n (recordOf h at k)) b;
+          }
+
+-- what is still to come in a loop whose next item is read in part: k nodes with one child each are put, and the node behind them is next. Whatever
+-- ends it, with the k records corrected, and then the rest of the loop, is an end G of the whole
+pub record Pending (G : Walk → List ℕ → Type 0) (item : Out) (rest : ℕ → ℕ → Out) (n k : ℕ) (out : List ℕ) : Type 0 where
+  pub stops : (w : Walk) (o : List ℕ) → Walked item n w out o → (c p : ℕ) → w ≡ Stop c p → G (Stop c p) o
+  pub goes : (w : Walk) (o : List ℕ) → Walked item n w out o → (e m : ℕ) → w ≡ Next e m → (r : Walk) (fin : List ℕ) → Walked (rest e m) m r (closes o n k m) fin → G r fin
+
+module _ (G : Walk → List ℕ → Type 0) (rest : ℕ → ℕ → Out) (n k : ℕ) where
+  -- one node more is put
+  pub pending-link : (o : Out) (h : Head) (at next j : ℕ) (v : Walk) (o₀ o₁ : List ℕ) → j ≡ suc k → Sealed (Next next (n + 1)) n h at v o₀ o₁ → Pending G (sealed o h at) rest n k o₀ → Pending G o rest (n + 1) j o₁
+  unfolding closes
+  pending-link o h at next j v o₀ o₁ a s x =
+      let b : n + 1 - 1 ≡ n = omega arith in
+      record {
+        stops = λ w o₂ y c p g. x .stops (Stop c p) o₂ (link-stop o n h at next v w o₀ o₁ o₂ s y c p g) c p refl;
+        goes = λ w o₂ y e m g r fin z.
+            x .goes (Next e m) (putAfter o₂ n m) (link-next o n h at next v w o₀ o₁ o₂ s y e m g) e m refl r fin
+            (subst (λ (i : ℕ). Walked (rest e m) m r (closes (putAfter o₂ i m) i k m) fin) b (subst (λ (i : ℕ). Walked (rest e m) m r (closes o₂ (n + 1) i m) fin) a z));
+      }
+
+  -- its end
+  pub pending-end : (item : Out) (out : List ℕ) → Pending G item rest n k out → (w : Walk) (o : List ℕ) → Walked item n w out o → (e m : ℕ) → w ≡ Next e m
+      → (o₁ : List ℕ) → o₁ ≡ closes o n k m → (r : Walk) (fin : List ℕ) → Walked (rest e m) m r o₁ fin → G r fin
+  pending-end item out x w o y e m g o₁ z r fin u = x .goes w o y e m g r fin (subst (λ (l : List ℕ). Walked (rest e m) m r l fin) z u)
+
+  pub pending-is : (o q : Out) (out : List ℕ) → o ≡ q → Pending G o rest n k out → Pending G q rest n k out
+  pending-is o q out e x = subst (λ (y : Out). Pending G y rest n k out) e x
 
 -- ---- a loop over a count, whose first item may be another
 
@@ -132,6 +199,28 @@ pub series-end : (f g : ℕ → ℕ → Out) (left e m : ℕ) (o : List ℕ) →
 unfolding series
 series-end f g zero e m o h = still e m m o
 series-end f g (suc i) e m o h = absurd (omega arith)
+
+-- an item of which nothing is read yet
+pub pending-item : (G : Walk → List ℕ → Type 0) (f g : ℕ → ℕ → Out) (left e m k : ℕ) (out : List ℕ) → 0 < left → k ≡ 0 → Holds (Ends m) (f e m)
+    → ((r : Walk) (fin : List ℕ) → Walked (series f g left e m) m r out fin → G r fin) → Pending G (f e m) (series g g (left - 1)) m k out
+unfolding closes
+pending-item G f g left e m k out h z ends x =
+    record {
+      stops = λ w o y c p u. x (Stop c p) o (series-stop f g left e m w out o h y c p u);
+      goes = λ w o y e₂ m₂ u r fin v.
+          x r fin (series-next f g left e m w out o h y ends e₂ m₂ u r fin (subst (λ (i : ℕ). Walked (series g g (left - 1) e₂ m₂) m₂ r (closes o m i m₂) fin) z v));
+    }
+
+-- what falls from one turn of such a loop to the next: the levels left or, with all of them given back, the items left
+pub fewer-levels : (x deep : ℕ) → 0 < deep → x + (deep - 1) < x + deep
+fewer-levels x deep h = omega arith
+
+pub fewer-items : (left d deep : ℕ) → 0 < left → (left - 1) * (d + 1) + d < left * (d + 1) + deep
+fewer-items zero d deep h = absurd (omega arith)
+fewer-items (suc k) d deep h = let e : suc k - 1 ≡ k = omega arith in rw (e, suc-mul k (d + 1)) (under (k * (d + 1)))
+  where
+    under : (x : ℕ) → x + d < x + (d + 1) + deep
+    under x = omega arith
 
 -- ---- a loop over a count, of one sort of item
 

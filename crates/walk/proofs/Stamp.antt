@@ -4,15 +4,15 @@ use borrow.Author.Tests.{le-leb, lt-leb, leb-true, leb-false}
 use mathlib.Core.Path.{_≡_, refl, sym, ap, _∙_}
 use mathlib.Core.Bool.{Bool, true, false, cond}
 use mathlib.Core.List.{List, [], _∷_, _++_, append-assoc}
-use Prim.Native.Nat.{ℕ, suc, _+_, _*_, _≤_, _<_}
+use Prim.Native.Nat.{ℕ, zero, suc, _+_, _-_, _*_, _≤_, _<_}
 use native.Mathlib.Nat.{add-zero}
 use native.Mathlib.Omega.{arith}
-use lib.ListN.{length, set, take, drop, length-append, take-append-drop}
-use lib.Seq.{sets, length-sets, sets-eq, set-comm, drop-at, take-append-le, length-take-le, take-take}
+use lib.ListN.{length, set, take, drop, length-set, length-append, take-append-drop}
+use lib.Seq.{sets, length-sets, sets-eq, set-set, set-comm, drop-at, take-append-le, length-take-le, take-take}
 use lib.Dec.{leb}
-use Rattle.grammar.specs.Table.{six, flat}
+use Rattle.grammar.specs.Table.{entry, six, flat}
 use Rattle.grammar.specs.declared.Node.{Node}
-use Rattle.walk.specs.Walk.{putOf, stamp}
+use Rattle.walk.specs.Walk.{putOf, putAfter, closes, stamp}
 
 -- by the value of a test, with its equation
 pub cond-by : {X : Type 0} (P : X → Type 0) (b : Bool) {x y : X} → (b ≡ true → P x) → (b ≡ false → P y) → P (cond b x y)
@@ -68,7 +68,7 @@ put-put-by o n m r q h false false e f =
 put-put : (o : List ℕ) (n m : ℕ) (r q : Node) → n < m → putOf (putOf o n r) m q ≡ putOf (putOf o m q) n r
 put-put o n m r q h = put-put-by o n m r q h _ _ refl refl
 
-stamp-put : (rs : List Node) (n m : ℕ) (r : Node) (o : List ℕ) → n < m → stamp m rs (putOf o n r) ≡ putOf (stamp m rs o) n r
+pub stamp-put : (rs : List Node) (n m : ℕ) (r : Node) (o : List ℕ) → n < m → stamp m rs (putOf o n r) ≡ putOf (stamp m rs o) n r
 unfolding stamp
 stamp-put [] n m r o h = refl
 stamp-put (q ∷ rs) n m r o h =
@@ -115,3 +115,49 @@ put-stores o n r h =
 
 pub put-nothing : (o : List ℕ) (n : ℕ) (r : Node) → length o < 6 * n + 6 → o ≡ putOf o n r
 put-nothing o n r h = sym (put-out o n r h)
+
+-- ---- the index after a record's subtree, put later
+
+pub after-in : (o : List ℕ) (n a : ℕ) → 6 * n + 6 ≤ length o → putAfter o n a ≡ set o (6 * n + 5) a
+unfolding putAfter
+after-in o n a h = simp (le-leb (6 * n + 6) (length o) h)
+
+pub after-out : (o : List ℕ) (n a : ℕ) → length o < 6 * n + 6 → putAfter o n a ≡ o
+unfolding putAfter
+after-out o n a h = simp (lt-leb (6 * n + 6) (length o) h)
+
+pub length-after : (o : List ℕ) (n a : ℕ) → length (putAfter o n a) ≡ length o
+unfolding putAfter
+length-after o n a = cond-by (λ (l : List ℕ). length l ≡ length o) (leb (6 * n + 6) (length o)) (λ _. length-set o (6 * n + 5) a) (λ _. refl)
+
+pub length-closes : (k n a : ℕ) (o : List ℕ) → length (closes o n k a) ≡ length o
+unfolding closes
+length-closes zero n a o = refl
+length-closes (suc k) n a o = length-closes k (n - 1) a (putAfter o (n - 1) a) ∙ length-after o (n - 1) a
+
+pub closes-more : (o : List ℕ) (n k a : ℕ) → 0 < k → closes o n k a ≡ closes (putAfter o (n - 1) a) (n - 1) (k - 1) a
+unfolding closes
+closes-more o n zero a h = absurd (omega arith)
+closes-more o n (suc k) a h = let e : suc k - 1 ≡ k = omega arith in rw e
+
+pub closes-end : (o : List ℕ) (n k a : ℕ) → k ≤ 0 → closes o n k a ≡ o
+unfolding closes
+closes-end o n zero a h = refl
+closes-end o n (suc k) a h = absurd (omega arith)
+
+-- a record put with one index after it, which is then corrected, is the record with the other
+put-after-by : (o : List ℕ) (n kind x y children at b a : ℕ) (t : Bool) → leb (6 * n + 6) (length o) ≡ t
+    → putAfter (putOf o n (entry kind x y children at b)) n a ≡ putOf o n (entry kind x y children at a)
+put-after-by o n kind x y children at b a true e =
+    let h : 6 * n + 6 ≤ length o = leb-true _ _ e in
+    let i : 6 * n + 5 ≡ suc (suc (suc (suc (suc (6 * n))))) = omega arith in
+    after-in (putOf o n (entry kind x y children at b)) n a (rw length-put h)
+    ∙ ap (λ (l : List ℕ). set l (6 * n + 5) a) (put-in o n (entry kind x y children at b) h)
+    ∙ rw i (set-set (set (set (set (set (set o (6 * n) kind) (suc (6 * n)) x) (suc (suc (6 * n))) y) (suc (suc (suc (6 * n)))) children) (suc (suc (suc (suc (6 * n))))) at) (suc (suc (suc (suc (suc (6 * n)))))) b a)
+    ∙ sym (put-in o n (entry kind x y children at a) h)
+put-after-by o n kind x y children at b a false e =
+    let h : length o < 6 * n + 6 = leb-false _ _ e in
+    after-out (putOf o n (entry kind x y children at b)) n a (rw length-put h) ∙ put-out o n _ h ∙ sym (put-out o n _ h)
+
+pub put-after : (o : List ℕ) (n kind x y children at b a : ℕ) → putAfter (putOf o n (entry kind x y children at b)) n a ≡ putOf o n (entry kind x y children at a)
+put-after o n kind x y children at b a = put-after-by o n kind x y children at b a _ refl

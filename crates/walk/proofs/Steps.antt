@@ -102,6 +102,14 @@ module _ (d : ℕ) (s : List ℕ) (counts : Counts) (p : Place) (at n : ℕ) (t 
     unfolding Begins
     all-bounds = begins-as _ g
 
+    -- with one child it is that child's outcome, sealed
+    pub all-one : h .children ≡ 1 → node d s counts p at n ≡ sealed (node (d - 1) s counts q next (n + 1)) h at
+    unfolding onOpen
+    all-one e =
+        opened-as _ g
+        ∙ ap (λ (k : ℕ). sealed (many (node (d - 1) s counts q) k next (n + 1)) h at) e
+        ∙ ap (λ (o : Out). sealed o h at) (many-one (node (d - 1) s counts q) next (n + 1))
+
     module _ (w : Walk) (o₀ o₁ : List ℕ) (x : Walked (series (node (d - 1) s counts q) (node (d - 1) s counts q) (h .children) next (n + 1)) (n + 1) w o₀ o₁) where
       pub all-small : smallOf w
       all-small =

@@ -1,10 +1,10 @@
 -- What the walk's functions give and leave in the table, by the judge's outcomes. Internal: an auditor goes by the judge and
 -- by the reader's Answer.antt.
-use Prim.Native.Nat.{ℕ, zero, suc, _+_, _*_, _≤_}
+use Prim.Native.Nat.{ℕ, zero, suc, _+_, _-_, _*_, _≤_}
 use mathlib.Core.Path.{_≡_}
 use mathlib.Core.Bool.{cond}
 use mathlib.Core.List.{List, [], _∷_, _++_}
-use lib.ListN.{length}
+use lib.ListN.{length, set}
 use lib.Seq.{sets}
 use lib.Dec.{leb}
 use Rattle.number.specs.Checked.{countAt}
@@ -27,6 +27,15 @@ use Rattle.walk.specs.declared.Shape.the-variants as Shape
 -- a record's six numbers at its place, where they fit
 unfoldable pub putOf : List ℕ → ℕ → Node → List ℕ
 putOf o n r = cond (leb (6 * n + 6) (length o)) (sets o (6 * n) (six r)) o
+
+-- the index after its subtree in the record with index n, where it fits
+unfoldable pub putAfter : List ℕ → (n after : ℕ) → List ℕ
+putAfter o n after = cond (leb (6 * n + 6) (length o)) (set o (6 * n + 5) after) o
+
+-- the same in the k records before the one with index n, the last of them first
+unfoldable pub closes : List ℕ → (n k after : ℕ) → List ℕ
+closes o n zero after = o
+closes o n (suc k) after = closes (putAfter o (n - 1) after) (n - 1) k after
 
 -- the records from index n on, each put where it fits, the first of them last
 unfoldable pub stamp : ℕ → List Node → List ℕ → List ℕ

@@ -1,6 +1,7 @@
-// The walk over a blob: one cycle of calls over the depth left, with the lent table written inside it. A node's record is put once,
-// after its children are read, where it fits; so the same walk judges, on an empty part of the table, and fills. A slice is passed on as
-// a reborrow, `&*src`, which the compiler keeps in registers where it copies `src` through memory.
+// The walk over a blob: one cycle of calls over the depth left, with the lent table written inside it. A node's record is put where it fits, after
+// its children are read; that of a node with one child before, and the index after its subtree is corrected then. So the same walk judges, on an
+// empty part of the table, and fills. A slice is passed on as a reborrow, `&*src`, which the compiler keeps in registers where it copies `src`
+// through memory.
 ghost use mathlib.Core.Path.{_≡_};
 ghost use mathlib.Core.Bool.{true};
 ghost use Prim.Native.Nat.{_+_, _≤_, _<_};
@@ -8,7 +9,8 @@ ghost use lib.ListN.{length};
 ghost use Rattle.element.specs.declared.Place.the-variants as Place;
 ghost use Rattle.grammar.specs.Judge.{node, many, bound};
 ghost use Rattle.grammar.specs.Kinds.{rootOf};
-ghost use Rattle.walk.specs.Walk.{putOf, smallOf, Sealed, Walked, Shaped, lowsOf, shapeOf, arrayOf, series};
+ghost use Rattle.walk.specs.declared.Walk.the-variants as Walk;
+ghost use Rattle.walk.specs.Walk.{putOf, putAfter, closes, smallOf, Sealed, Walked, Shaped, lowsOf, shapeOf, arrayOf, series};
 ghost use Rattle.opening.specs.Sorts.{plain, called};
 use element::Place;
 use grammar::MAX_DEPTH;
@@ -93,6 +95,44 @@ fn seal(out: &mut [u32], n: usize, head: Head, at: usize, w: Walk) -> Walk
     }
 }
 
+// The record of a node as if it had no children.
+fn childless(out: &mut [u32], n: usize, head: Head, at: usize, next: usize) -> Walk
+    requires { ⌜ (n < 1024) × (at ≤ 4096) ⌝ }
+    ensures { λ r. ⌜ Sealed (Walk.Next next (n + 1)) n head at r (now (out .entry)) (now (out .exit)) ⌝ }
+{
+    let w = Walk::Next {
+        at: next,
+        node: n + 1,
+    };
+    seal(out, n, head, at, w)
+}
+
+// Stores the index after a node's subtree in its record, where it fits.
+fn put_after(out: &mut [u32], n: usize, after: u32)
+    requires { ⌜ n < 1024 ⌝ }
+    ensures { λ _. ⌜ now (out .exit) ≡ putAfter (now (out .entry)) n after ⌝ }
+{
+    let i = 6 * n;
+    if i + 6 <= out.len() {
+        out[i + 5] = after;
+    }
+}
+
+// Corrects it in the k records before the one with index n.
+fn close(out: &mut [u32], n: usize, k: usize, after: usize)
+    requires { ⌜ (n ≤ 1024) × (k ≤ n) × (after ≤ 4096) ⌝ }
+    ensures { λ _. ⌜ now (out .exit) ≡ closes (now (out .entry)) n k after ⌝ }
+{
+    let last = size32(after);
+    let mut i = n;
+    let mut left = k;
+    while 0 < left {
+        i -= 1;
+        put_after(out, i, last);
+        left -= 1;
+    }
+}
+
 // A SIZE or LOW node.
 fn bound_at(out: &mut [u32], d: usize, src: &[u8], kind: u32, at: usize, n: usize) -> Walk
     requires { ⌜ length (now src) ≤ 4096 ⌝ }
@@ -109,22 +149,13 @@ fn bound_at(out: &mut [u32], d: usize, src: &[u8], kind: u32, at: usize, n: usiz
                     place: at,
                 };
             }
-            let w = Walk::Next {
-                at: next,
-                node: n + 1,
+            let head = Head {
+                kind,
+                a: value,
+                b: 0,
+                children: 0,
             };
-            seal(
-                out,
-                n,
-                Head {
-                    kind,
-                    a: value,
-                    b: 0,
-                    children: 0,
-                },
-                at,
-                w,
-            )
+            childless(out, n, head, at, next)
         }
         Checked::Bad { code } => Walk::Stop { code, place: at },
     }
@@ -262,7 +293,8 @@ fn method_at(
     }
 }
 
-// `count` types one after the other, the first in one place and the rest in another. A type without children takes no call.
+// `count` types one after the other, the first in one place and the rest in another. A type without children takes no call, and nodes with one
+// child each are a chain that is walked in the loop: as many of them are open as levels are used.
 fn types_at(
     out: &mut [u32],
     d: usize,
@@ -281,32 +313,45 @@ fn types_at(
     let mut e = at;
     let mut m = n;
     let mut p = place;
+    let mut deep = d;
     while 0 < left {
-        let w = match opening::open_at(src, counts, p, e, m, d) {
+        let w = match opening::open_at(src, counts, p, e, m, deep) {
             Open::Shut { code, place: q } => Walk::Stop { code, place: q },
-            Open::Leaf { head, next } => {
-                let leaf = Walk::Next {
-                    at: next,
-                    node: m + 1,
-                };
-                seal(out, m, head, e, leaf)
-            }
+            Open::Leaf { head, next } => childless(out, m, head, e, next),
             Open::Method { head, next } => {
-                let method = method_at(out, d - 1, &*src, counts, Place::FnPtrMethod, next, m + 1);
+                let method = method_at(
+                    out,
+                    deep - 1,
+                    &*src,
+                    counts,
+                    Place::FnPtrMethod,
+                    next,
+                    m + 1,
+                );
                 seal(out, m, head, e, method)
             }
             Open::All { head, child, next } => {
                 let k = head.children;
-                let all = types_at(out, d - 1, &*src, counts, child, child, k, next, m + 1);
+                if k == 1 {
+                    childless(out, m, head, e, next);
+                    e = next;
+                    m += 1;
+                    p = child;
+                    deep -= 1;
+                    continue;
+                }
+                let all = types_at(out, deep - 1, &*src, counts, child, child, k, next, m + 1);
                 seal(out, m, head, e, all)
             }
-            Open::Array { kind } => array_at(out, d - 1, &*src, counts, kind, e, m),
+            Open::Array { kind } => array_at(out, deep - 1, &*src, counts, kind, e, m),
         };
         match w {
             Walk::Next { at: e2, node: m2 } => {
+                close(out, m, d - deep, m2);
                 e = e2;
                 m = m2;
                 p = then;
+                deep = d;
             }
             Walk::Stop { code, place: q } => return Walk::Stop { code, place: q },
         }

@@ -1,6 +1,6 @@
 -- The cycle of calls of the walk: a type, a method, an array, and some types one after the other. The depth left falls.
 -- Assumes nothing.
-use Prim.Native.Nat.{ℕ, _+_, _*_, _<_}
+use Prim.Native.Nat.{ℕ, _+_, _-_, _*_, _≤_, _<_}
 use mathlib.Core.Path.{_≡_, refl, _∙_}
 use mathlib.Core.Bool.{true}
 use mathlib.Core.List.{List}
@@ -13,8 +13,9 @@ use Rattle.grammar.proofs.Bounds.{ends-node}
 use Rattle.walk.specs.Walk.{series, Walked}
 use Rattle.opening.specs.Sorts.{plain}
 use Rattle.walk.specs.declared.Walk.{Walk}
-use Rattle.walk.proofs.Laws.{found, walked-as, walked-length, walked-next, series-stop, series-next, series-end, array-stop, array-cut, array-small, array-done}
-use Rattle.walk.proofs.Steps.{type-stop, leaf-bounds, leaf-done, pointer-bounds, pointer-small, pointer-done, all-bounds, all-small, all-done, array-bounds, array-node, one-walked, method-stop, method-bounds, method-small, method-done}
+use Rattle.walk.specs.declared.Walk.the-variants.{Next}
+use Rattle.walk.proofs.Laws.{found, walked-as, walked-length, walked-next, walked-first, Pending, pending-item, pending-link, pending-end, pending-is, series-end, fewer-levels, fewer-items, array-stop, array-cut, array-small, array-done}
+use Rattle.walk.proofs.Steps.{type-stop, leaf-bounds, leaf-done, pointer-bounds, pointer-small, pointer-done, all-bounds, all-one, all-small, all-done, array-bounds, array-node, one-walked, method-stop, method-bounds, method-small, method-done}
 use borrow.Fn.Kinds.{In}
 use borrow.Fn.PlainCycle.{Measures, is, falls, and}
 use Rattle.walk.proofs.array_at.Reads as array-at
@@ -31,6 +32,8 @@ use Rattle.walk.proofs.types_at.Kinds as types-at-kinds
 use Rattle.walk.proofs.+array_at+method_at+type_at+types_at.Lts-types_at as types-at-lts
 use Rattle.opening.proofs.lead_at.Reads as lead-at-reads
 use Rattle.opening.proofs.open_at.Reads as open-at-reads
+use Rattle.walk.proofs.childless.Reads as childless-reads
+use Rattle.walk.proofs.close.Reads as close-reads
 use Rattle.walk.proofs.seal.Reads as seal-reads
 use Rattle.walk.proofs.shape_at.Reads as shape-at-reads
 use Rattle.walk.proofs.+array_at+method_at+type_at+types_at.{statement}
@@ -72,12 +75,15 @@ types-at-at t = and 2 types-at-kinds.ps (is 2 types-at-kinds.ps μ-types-at t) t
 abbrev types-at-below : ℕ → In 2 types-at-kinds.ps
 types-at-below t = and 2 types-at-kinds.ps (falls 2 types-at-kinds.ps _<_ μ-types-at t) types-at.Pre
 
--- whatever ends the rest from here ends the whole
+-- as many nodes with one child as levels are used are put, and whatever ends the rest from here ends the whole
 abbrev types-at-Inv-loop : types-at-lts.InvT-loop
-types-at-Inv-loop out₀ d src counts then count at n left₀ e₀ m₀ p₀ out left e m p = (length out ≡ length out₀) × (plain p ≡ true) × ((r : Walk) (fin : List ℕ) → Walked (series (node d src counts p) (node d src counts then) left e m) m r out fin → Walked (series (node d src counts p₀) (node d src counts then) count at n) n r out₀ fin)
+types-at-Inv-loop out₀ d src counts then count at n left₀ e₀ m₀ p₀ deep₀ out left e m p deep =
+    let whole : Walk → List ℕ → Type 0 = λ r fin. Walked (series (node d src counts p₀) (node d src counts then) count at n) n r out₀ fin in
+    (length out ≡ length out₀) × (plain p ≡ true) × (deep ≤ d) × (d - deep ≤ m) × (0 < left → Pending whole (node deep src counts p e m) (series (node d src counts then) (node d src counts then) (left - 1)) m (d - deep) out) × (left ≤ 0 → whole (Next e m) out)
 
+-- a link uses up a level, and an item's end gives them all back
 abbrev types-at-μ-loop : types-at-lts.MeasureT-loop
-types-at-μ-loop out₀ d src counts then count at n left₀ e₀ m₀ p₀ out left e m p = left
+types-at-μ-loop out₀ d src counts then count at n left₀ e₀ m₀ p₀ deep₀ out left e m p deep = left * (d + 1) + deep
 
 -- the loop where the arms of its match have met
 abbrev Read : ℕ → Type 0
@@ -85,24 +91,30 @@ Read t =
     types-at-lts.At-match-came (
       open-at-reads.Asked,
       open-at-reads.Learnt,
-      seal-reads.Asked,
-      seal-reads.Learnt,
+      childless-reads.Asked,
+      childless-reads.Learnt,
       method-at-below t,
       method-at.Post,
+      seal-reads.Asked,
+      seal-reads.Learnt,
       types-at-below t,
       types-at.Post,
       array-at-below t,
       array-at.Post,
+      close-reads.Asked,
+      close-reads.Learnt,
     )
     (types-at-at t)
     types-at.Post
     types-at-Inv-loop
     types-at-μ-loop
 
--- one type of the loop
+-- one node of the loop
 abbrev Item : (t : ℕ) → Read t → Type 0
 Item t c =
-    Walked (node (c .before .before .before .before .before .before .args .d) (c .before .before .before .before .before .before .args .src .now) (c .before .before .before .before .before .before .args .counts) (c .before .before .before .loop .p) (c .before .before .before .loop .e) (c .before .before .before .loop .m)) (c .before .before .before .loop .m) (c .match .w) (c .before .before .before .loop .out) (c .match .out)
+    let l = c .before .before .before .loop in
+    let a = c .before .before .before .before .before .before .args in
+    Walked (node (l .deep) (a .src .now) (a .counts) (l .p) (l .e) (l .m)) (l .m) (c .match .w) (l .out) (c .match .out)
 
 -- by what stood before its children
 types-at-item : (t : ℕ) (c : Read t) → Item t c
@@ -112,7 +124,7 @@ types-at-item t c =
     ⊎-elim {C = Item t c} (λ x. walked-as _ _ _ _ _ _ _ (x .3) (x .4) (type-stop _ _ _ _ _ _ p _ q _ _ _ (x .1 .given .1)))
     (⊎-elim {C = Item t c} (λ x. walked-as _ _ _ _ _ _ _ (x .7) (x .8) (leaf-done _ _ _ _ _ _ p _ q _ _ (x .1 .given .1) _ _ _ (x .4 .ensures)))
     (⊎-elim {C = Item t c} (λ x. walked-as _ _ _ _ _ _ _ (x .11) (x .12) (pointer-done _ _ _ _ _ _ p _ q _ _ (x .1 .given .1) _ _ _ (x .4 .ensures) _ _ (x .8 .ensures)))
-    (⊎-elim {C = Item t c} (λ x. walked-as _ _ _ _ _ _ _ (x .11) (x .12) (all-done _ _ _ _ _ _ p _ q _ _ _ (x .1 .given .1) _ _ _ (x .4 .ensures) _ _ (x .8 .ensures)))
+    (⊎-elim {C = Item t c} (λ x. walked-as _ _ _ _ _ _ _ (x .12) (x .13) (all-done _ _ _ _ _ _ p _ q _ _ _ (x .1 .given .1) _ _ _ (x .5 .ensures) _ _ (x .9 .ensures)))
     (λ x. walked-as _ _ _ _ _ _ _ (x .7) (x .8) (array-node _ _ _ _ _ _ p _ q _ (x .1 .given .1) _ _ _ (x .4 .ensures))))))
     (c .match .came)
 
@@ -173,44 +185,54 @@ pub +array-at+method-at+type-at+types-at-spec : {M : Type 1} → statement M
     λ t. types-at-lts.spec (
       open-at-reads.Asked,
       open-at-reads.Learnt,
-      seal-reads.Asked,
-      seal-reads.Learnt,
+      childless-reads.Asked,
+      childless-reads.Learnt,
       method-at-below t,
       method-at.Post,
+      seal-reads.Asked,
+      seal-reads.Learnt,
       types-at-below t,
       types-at.Post,
       array-at-below t,
       array-at.Post,
+      close-reads.Asked,
+      close-reads.Learnt,
     )
     (types-at-at t)
     types-at.Post
     types-at-Inv-loop
     types-at-μ-loop
-    (λ c. (refl, c .before .before .pre .1 .1, λ r fin y. y))
+    (λ c. (refl, c .before .before .pre .1 .1, omega arith, omega arith, λ h. pending-item _ _ _ _ _ _ _ _ h (omega arith) (ends-node _ _ _ _ _ _) (λ r fin y. y), λ h. series-end _ _ _ _ _ _ h))
     (λ c κs. c .before .loop .inv .1)
     (λ c. search needs)
     (λ c. search needs)
-    (λ c. omega (arith, leaf-bounds _ _ _ _ _ _ (c .before .before .before .before .before .loop .inv .1) _ (c .before .before .before .open-at .ensures) _ _ (c .before .head .given .1)))
-    (λ c κs. omega (arith, leaf-bounds _ _ _ _ _ _ (c .before .before .before .before .before .before .loop .inv .1) _ (c .before .before .before .before .open-at .ensures) _ _ (c .before .before .head .given .1), c .before .before .before .before .before .before .before .before .before .pre .1 .0))
+    (λ c κs. let b = leaf-bounds _ _ _ _ _ _ (c .before .before .before .before .before .before .loop .inv .1) _ (c .before .before .before .before .open-at .ensures) _ _ (c .before .before .head .given .1) in (b .2, omega (arith, b, c .before .before .before .before .before .before .before .before .before .pre .1 .0)))
     (λ c. search needs)
     (λ c. omega (arith, pointer-bounds _ _ _ _ _ _ (c .before .before .before .before .before .before .loop .inv .1) _ (c .before .before .before .before .open-at .ensures) _ _ (c .before .before .head2 .given .1)))
     (λ c. omega (arith, pointer-bounds _ _ _ _ _ _ (c .before .before .before .before .before .before .loop .inv .1) _ (c .before .before .before .before .open-at .ensures) _ _ (c .before .before .head2 .given .1)))
-    (λ c κs. let b = pointer-bounds _ _ _ _ _ _ (c .before .before .before .before .before .before .loop .inv .1) _ (c .before .before .before .before .open-at .ensures) _ _ (c .before .before .head2 .given .1) in (omega (arith, b, c .before .before .before .before .before .before .before .before .before .pre .0), (c .before .before .before .before .before .before .before .before .before .pre .1 .0, refl)))
+    (λ c κs. let b = pointer-bounds _ _ _ _ _ _ (c .before .before .before .before .before .before .loop .inv .1) _ (c .before .before .before .before .open-at .ensures) _ _ (c .before .before .head2 .given .1) in (omega (arith, b, c .before .before .before .before .before .before .loop .inv .2, c .before .before .before .before .before .before .before .before .before .pre .0), (c .before .before .before .before .before .before .before .before .before .pre .1 .0, refl)))
     (λ c κs. let b = pointer-bounds _ _ _ _ _ _ (c .before .before .before .before .before .before .before .before .before .before .loop .inv .1) _ (c .before .before .before .before .before .before .before .before .open-at .ensures) _ _ (c .before .before .before .before .before .before .head2 .given .1) in (b .2, omega (arith, b, c .before .before .before .before .before .before .before .before .before .before .before .before .before .pre .1 .0), pointer-small _ _ _ _ _ _ (c .before .before .before .before .before .before .before .before .before .before .loop .inv .1) _ (c .before .before .before .before .before .before .before .before .open-at .ensures) _ _ (c .before .before .before .before .before .before .head2 .given .1) _ _ _ (c .before .before .before .method-at .ensures)))
     (λ c. search needs)
-    (λ c. omega (arith, all-bounds _ _ _ _ _ _ (c .before .before .before .before .before .before .loop .inv .1) _ (c .before .before .before .before .open-at .ensures) _ _ _ (c .before .before .head3 .given .1)))
-    (λ c. omega (arith, all-bounds _ _ _ _ _ _ (c .before .before .before .before .before .before .loop .inv .1) _ (c .before .before .before .before .open-at .ensures) _ _ _ (c .before .before .head3 .given .1)))
-    (λ c κs. let b = all-bounds _ _ _ _ _ _ (c .before .before .before .before .before .before .loop .inv .1) _ (c .before .before .before .before .open-at .ensures) _ _ _ (c .before .before .head3 .given .1) in (omega (arith, b, c .before .before .before .before .before .before .before .before .before .pre .0), (c .before .before .before .before .before .before .before .before .before .pre .1 .0, b .3, b .3)))
-    (λ c κs. let b = all-bounds _ _ _ _ _ _ (c .before .before .before .before .before .before .before .before .before .before .loop .inv .1) _ (c .before .before .before .before .before .before .before .before .open-at .ensures) _ _ _ (c .before .before .before .before .before .before .head3 .given .1) in (b .2, omega (arith, b, c .before .before .before .before .before .before .before .before .before .before .before .before .before .pre .1 .0), all-small _ _ _ _ _ _ (c .before .before .before .before .before .before .before .before .before .before .loop .inv .1) _ (c .before .before .before .before .before .before .before .before .open-at .ensures) _ _ _ (c .before .before .before .before .before .before .head3 .given .1) _ _ _ (c .before .before .before .types-at .ensures)))
+    (λ c κs. let b = all-bounds _ _ _ _ _ _ (c .before .before .before .before .before .before .before .loop .inv .1) _ (c .before .before .before .before .before .open-at .ensures) _ _ _ (c .before .before .before .head3 .given .1) in (b .2, omega (arith, b, c .before .before .before .before .before .before .before .before .before .before .pre .1 .0)))
+    (λ c. omega (arith, all-bounds _ _ _ _ _ _ (c .before .before .before .before .before .before .before .before .before .before .loop .inv .1) _ (c .before .before .before .before .before .before .before .before .open-at .ensures) _ _ _ (c .before .before .before .before .before .before .head3 .given .1)))
+    (λ c. omega (arith, all-bounds _ _ _ _ _ _ (c .before .before .before .before .before .before .before .before .before .before .loop .inv .1) _ (c .before .before .before .before .before .before .before .before .open-at .ensures) _ _ _ (c .before .before .before .before .before .before .head3 .given .1)))
+    (λ c. fewer-levels _ _ (all-bounds _ _ _ _ _ _ (c .before .before .before .before .before .before .before .before .before .before .loop .inv .1) _ (c .before .before .before .before .before .before .before .before .open-at .ensures) _ _ _ (c .before .before .before .before .before .before .head3 .given .1) .0))
+    (λ c. let l = c .before .before .before .before .before .before .before .before .before .before .loop in let b = all-bounds _ _ _ _ _ _ (c .before .before .before .before .before .before .before .before .before .before .loop .inv .1) _ (c .before .before .before .before .before .before .before .before .open-at .ensures) _ _ _ (c .before .before .before .before .before .before .head3 .given .1) in (c .before .before .childless2 .kept .0 ∙ l .inv .0, b .3, omega (arith, l .inv .2), omega (arith, b, l .inv), λ h. pending-link _ _ _ _ _ _ _ _ _ _ _ _ (omega (arith, b, l .inv)) (c .before .before .childless2 .ensures) (pending-is _ _ _ _ _ _ _ (all-one _ _ _ _ _ _ (l .inv .1) _ (c .before .before .before .before .before .before .before .before .open-at .ensures) _ _ _ (c .before .before .before .before .before .before .head3 .given .1) (c .before .before .before .before .if1 .taken)) (l .inv .4 h)), λ h. absurd (omega (arith, h, c .before .before .before .before .before .before .before .before .before .loop-test .taken))))
+    (λ c. omega (arith, all-bounds _ _ _ _ _ _ (c .before .before .before .before .before .before .before .loop .inv .1) _ (c .before .before .before .before .before .open-at .ensures) _ _ _ (c .before .before .before .head3 .given .1)))
+    (λ c. omega (arith, all-bounds _ _ _ _ _ _ (c .before .before .before .before .before .before .before .loop .inv .1) _ (c .before .before .before .before .before .open-at .ensures) _ _ _ (c .before .before .before .head3 .given .1)))
+    (λ c κs. let b = all-bounds _ _ _ _ _ _ (c .before .before .before .before .before .before .before .loop .inv .1) _ (c .before .before .before .before .before .open-at .ensures) _ _ _ (c .before .before .before .head3 .given .1) in (omega (arith, b, c .before .before .before .before .before .before .before .loop .inv .2, c .before .before .before .before .before .before .before .before .before .before .pre .0), (c .before .before .before .before .before .before .before .before .before .before .pre .1 .0, b .3, b .3)))
+    (λ c κs. let b = all-bounds _ _ _ _ _ _ (c .before .before .before .before .before .before .before .before .before .before .before .loop .inv .1) _ (c .before .before .before .before .before .before .before .before .before .open-at .ensures) _ _ _ (c .before .before .before .before .before .before .before .head3 .given .1) in (b .2, omega (arith, b, c .before .before .before .before .before .before .before .before .before .before .before .before .before .before .pre .1 .0), all-small _ _ _ _ _ _ (c .before .before .before .before .before .before .before .before .before .before .before .loop .inv .1) _ (c .before .before .before .before .before .before .before .before .before .open-at .ensures) _ _ _ (c .before .before .before .before .before .before .before .head3 .given .1) _ _ _ (c .before .before .before .types-at .ensures)))
     (λ c. search needs)
     (λ c. omega (arith, array-bounds _ _ _ _ _ _ (c .before .before .before .before .before .before .loop .inv .1) _ (c .before .before .before .before .open-at .ensures) _ (c .before .before .kind .given .1)))
-    (λ c κs. let b = array-bounds _ _ _ _ _ _ (c .before .before .before .before .before .before .loop .inv .1) _ (c .before .before .before .before .open-at .ensures) _ (c .before .before .kind .given .1) in (omega (arith, b, c .before .before .before .before .before .before .before .before .before .pre .0), (c .before .before .before .before .before .before .before .before .before .pre .1 .0, b .1, b .2)))
+    (λ c κs. let b = array-bounds _ _ _ _ _ _ (c .before .before .before .before .before .before .loop .inv .1) _ (c .before .before .before .before .open-at .ensures) _ (c .before .before .kind .given .1) in (omega (arith, b, c .before .before .before .before .before .before .loop .inv .2, c .before .before .before .before .before .before .before .before .before .pre .0), (c .before .before .before .before .before .before .before .before .before .pre .1 .0, b .1, b .2)))
     (λ c. search needs)
+    (λ c. c .before .before .before .before .before .before .before .loop .inv .2)
+    (λ c κs. let y = found _ _ _ _ _ _ (c .before .before .w .given .1) (types-at-item t (c .before .before .before .before)) in (walked-first _ _ _ _ _ _ (ends-node _ _ _ _ _ _) y, c .before .before .before .before .before .before .before .loop .inv .3, omega (arith, walked-next _ _ _ _ _ _ (ends-node _ _ _ _ _ _) y)))
     (λ c. search needs)
-    (λ c. let x = c .before .before .before in walked-length _ _ _ _ _ (types-at-item t x) ∙ x .before .before .before .loop .inv .0)
-    (λ c. let x = c .before .before .before in x .before .before .before .loop .inv .2 _ _ (series-stop _ _ _ _ _ _ _ _ (x .before .before .loop-test .taken) (types-at-item t x) _ _ (c .before .w2 .given .1)))
+    (λ c. walked-length _ _ _ _ _ (types-at-item t (c .before .before .before)) ∙ c .before .before .before .before .before .before .loop .inv .0)
+    (λ c. c .before .before .before .before .before .before .loop .inv .4 (c .before .before .before .before .before .loop-test .taken) .stops _ _ (types-at-item t (c .before .before .before)) _ _ (c .before .w2 .given .1))
     (λ c. search needs)
-    (λ c. search needs)
-    (λ c. let x = c .before .before .before in let l = x .before .before .before .loop in (walked-length _ _ _ _ _ (types-at-item t x) ∙ l .inv .0, x .before .before .before .before .before .before .pre .1 .2, λ r fin y. l .inv .2 r fin (series-next _ _ _ _ _ _ _ _ (x .before .before .loop-test .taken) (types-at-item t x) (ends-node _ _ _ _ _ _) _ _ (c .before .w .given .1) r fin y)))
-    (λ c. search needs)
-    (λ c. c .before .loop .inv .2 _ _ (series-end _ _ _ _ _ _ (c .loop-test .left)))
+    (λ c. fewer-items _ _ _ (c .before .before .before .before .before .before .before .before .before .loop-test .taken))
+    (λ c. let l = c .before .before .before .before .before .before .before .before .before .before .loop in let i = types-at-item t (c .before .before .before .before .before .before .before) in let x = pending-end _ _ _ _ _ _ (l .inv .4 (c .before .before .before .before .before .before .before .before .before .loop-test .taken)) _ _ i _ _ (c .before .before .before .before .before .w .given .1) _ (c .before .before .close .ensures) in (c .before .before .close .kept .0 ∙ walked-length _ _ _ _ _ i ∙ l .inv .0, c .before .before .before .before .before .before .before .before .before .before .before .before .before .pre .1 .2, omega arith, omega arith, λ h. pending-item _ _ _ _ _ _ _ _ h (omega arith) (ends-node _ _ _ _ _ _) x, λ h. x _ _ (series-end _ _ _ _ _ _ h)))
+    (λ c. c .before .loop .inv .0)
+    (λ c. c .before .loop .inv .5 (c .loop-test .left))
