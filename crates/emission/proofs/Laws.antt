@@ -10,7 +10,7 @@ use lib.Seq.{sets, length-sets}
 use lib.Dec.{leb}
 use borrow.Author.Tests.{leb-true, leb-false, le-leb, lt-leb}
 use Rattle.number.specs.Number.{encode, putAt}
-use Rattle.number.proofs.Encoding.{put-fits}
+use Rattle.number.proofs.Encoding.{encode-1, put-fits}
 use Rattle.grammar.specs.Emit.{Emitted, torn, wrote, andThen, spell, times}
 use Rattle.emission.specs.Emission.{spelled, Spelt, put, cut, followed, resultOf, leavesOf, Emits}
 use Rattle.emission.specs.declared.Emit.{Emit}
@@ -130,6 +130,17 @@ module _ (v at : ℕ) (o : List ℕ) where
 
   pub number-put : (r : ℕ) (o₁ : List ℕ) → at + length (encode v) ≤ length o → r ≡ at + length (encode v) → o₁ ≡ putAt o at (encode v) → Spelt (v ∷ []) at r o o₁
   number-put r o₁ h e p = put (rw one h) (rw one e) (rw one (p ∙ sym (put-fits o at (encode v) h)))
+
+  -- a number of one byte
+  module _ (s : v < 0x80) where
+    single : spell (v ∷ []) [] ≡ v ∷ []
+    single = one ∙ encode-1 v s
+
+    pub byte-put : (r : ℕ) (o₁ : List ℕ) → at < length o → r ≡ at + 1 → o₁ ≡ set o at v → Spelt (v ∷ []) at r o o₁
+    byte-put r o₁ h e p = put (rw single (omega arith)) (rw single e) (rw single p)
+
+    pub byte-cut : (r : ℕ) → length o ≤ at → r ≡ length o + 1 → Spelt (v ∷ []) at r o o
+    byte-cut r h e = cut (rw single (omega arith)) e refl
 
 module _ {vs : List ℕ} {at e : ℕ} {o o₁ : List ℕ} where
   spelt-kept : Spelt vs at e o o₁ → length o₁ ≡ length o

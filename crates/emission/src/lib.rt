@@ -2,7 +2,7 @@
 // Slices are passed on as reborrows, for speed, as in crate `walk`.
 ghost use mathlib.Core.Path.{_≡_};
 ghost use mathlib.Core.List.{[], _∷_};
-ghost use Prim.Native.Nat.{_+_, _-_, _*_, _≤_};
+ghost use Prim.Native.Nat.{_+_, _-_, _*_, _≤_, _<_};
 ghost use lib.ListN.{length};
 ghost use Rattle.grammar.specs.Table.{recordAt};
 ghost use Rattle.grammar.specs.Emit.{array, callable, layoutOf, partsOf, times, parts, emit};
@@ -43,10 +43,25 @@ fn record_at(table: &[u32], n: usize) -> Node
     }
 }
 
-// One number where it fits: the offset after it, or one past the end of the buffer.
+// A number of one byte, as `number_to` puts it.
+fn byte_to(out: &mut [u8], v: u32, at: usize) -> usize
+    requires { ⌜ v < 128 ⌝ }
+    ensures { λ r. ⌜ Spelt (v ∷ []) at r (now (out .entry)) (now (out .exit)) ⌝ }
+{
+    if at < out.len() {
+        out[at] = v as u8;
+        return at + 1;
+    }
+    out.len() + 1
+}
+
+// One number where it fits: the offset after it, or one past the end of the buffer. Most numbers have one byte.
 fn number_to(out: &mut [u8], v: u32, at: usize) -> usize
     ensures { λ r. ⌜ Spelt (v ∷ []) at r (now (out .entry)) (now (out .exit)) ⌝ }
 {
+    if v < 0x80 {
+        return byte_to(out, v, at);
+    }
     let len = number::number_len(v);
     if out.len() < len {
         return out.len() + 1;

@@ -55,6 +55,10 @@ pub fn has_table(kind: u32, counts: Counts, blob: &[u8], table: &[u32]) -> bool
         let mut some = [0u32; 384];
         return has_table_in(&mut some, kind, counts, blob, table);
     }
+    if table.len() <= 1536 {
+        let mut more = [0u32; 1536];
+        return has_table_in(&mut more, kind, counts, blob, table);
+    }
     if table.len() <= 6144 {
         let mut seen = [0u32; 6144];
         return has_table_in(&mut seen, kind, counts, blob, table);

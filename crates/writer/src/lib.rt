@@ -50,6 +50,13 @@ fn write_known(kind: u32, counts: Counts, table: &[u32], out: &mut [u8]) -> Answ
             Emit::Stop => {}
         }
     }
+    if table.len() <= 768 {
+        let mut some = [0u8; 512];
+        match emission::all_at(&mut some, MAX_DEPTH, table, 1, 0, 0) {
+            Emit::Next { at, node } => return copy_confirmed(kind, counts, &some[..at], table, out),
+            Emit::Stop => {}
+        }
+    }
     let mut blob = [0u8; 4096];
     match emission::all_at(&mut blob, MAX_DEPTH, table, 1, 0, 0) {
         Emit::Next { at, node } => copy_confirmed(kind, counts, &blob[..at], table, out),

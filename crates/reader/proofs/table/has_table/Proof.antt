@@ -17,4 +17,7 @@ has-table-spec =
     (λ c. search needs)
     (λ c κs. search needs)
     (λ c. search needs)
-    (λ c. has-over _ _ _ _ (c .if3 .left)))
+    (λ c. search needs)
+    (λ c κs. search needs)
+    (λ c. search needs)
+    (λ c. has-over _ _ _ _ (c .if4 .left)))
