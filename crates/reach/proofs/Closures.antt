@@ -13,9 +13,9 @@ use lib.Seq.{getD-set-same, getD-set-other}
 use lib.Bits.{bitOr}
 use native.Mathlib.Numerals.{add-one}
 use Rattle.reach.specs.Reach.{thru}
-use Rattle.reach.specs.Bits.{at, bit}
+use Rattle.bits.specs.Bits.{at, bit}
 use Rattle.reach.specs.Closing.{Ored, RowRelaxed, Relaxed}
-use Rattle.reach.proofs.BitLaws.{Apart, word-lt, pos-apart, bit-or}
+use Rattle.bits.proofs.BitLaws.{Apart, word-lt, pos-apart, bit-or}
 
 pub ored-none : (l : List ℕ) (d s : ℕ) → Ored l d s 0 l
 ored-none l d s = record { len = refl; done = λ y h. absurd (omega arith); rest = λ p h. refl }

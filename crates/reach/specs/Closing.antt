@@ -6,7 +6,7 @@ use mathlib.Core.Bool.{_||_, _&&_}
 use mathlib.Core.Logic.{_⊎_}
 use lib.ListN.{length, getD}
 use lib.Bits.{bitOr}
-use Rattle.reach.specs.Bits.{at}
+use Rattle.bits.specs.Bits.{at}
 
 -- l is l₀ with its first x words from d on joined with those from s on
 pub record Ored (l₀ : List ℕ) (d s x : ℕ) (l : List ℕ) : Type 0 where

@@ -1,4 +1,2 @@
 pub mod Reach
-pub mod Bits
 pub mod Closing
-pub mod Standing

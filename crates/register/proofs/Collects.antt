@@ -19,10 +19,10 @@ use Rattle.grammar.specs.declared.Node.{Node}
 use Rattle.grammar.proofs.Sound.{Holds, holds}
 use Rattle.grammar.proofs.Bounds.{Ends}
 use Rattle.grammar.proofs.Emits.{length-flat}
-use Rattle.reach.specs.Bits.{at, putBit, zeroed}
-use Rattle.reach.specs.Standing.{any}
-use Rattle.reach.proofs.BitLaws.{at-put, at-put-other, length-put, length-zeroed, at-emptied, at-emptied-other, eqb-same}
-use Rattle.reach.proofs.Standings.{any-cong}
+use Rattle.bits.specs.Bits.{at, putBit, zeroed}
+use Rattle.standing.specs.Standing.{any}
+use Rattle.bits.proofs.BitLaws.{at-put, at-put-other, length-put, length-zeroed, at-emptied, at-emptied-other, eqb-same}
+use Rattle.standing.proofs.Standings.{any-cong}
 use Rattle.register.specs.Outcome.{isMod, isModOf, has, namesRow}
 use Rattle.register.specs.Named.{rowNamed, collected, namedBy}
 

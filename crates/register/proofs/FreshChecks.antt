@@ -12,10 +12,10 @@ use native.Mathlib.Decide.{ℕ-discrete}
 use lib.Dec.{ltb, eqb}
 use borrow.Author.Tests.{ne-eqb, ltb-true}
 use Rattle.reach.specs.Reach.{Reach, thru}
-use Rattle.reach.specs.Standing.{trouble, leaning, standing}
+use Rattle.standing.specs.Standing.{trouble, leaning, standing}
 use Rattle.reach.proofs.Bools.{bool-ext, or-cases, or-right, and-both, both}
 use Rattle.reach.proofs.Reaching.{thru-decides, AgreeOff, reach-to, reach-off, join}
-use Rattle.reach.proofs.Standings.{any-cong, any-intro, any-elim}
+use Rattle.standing.proofs.Standings.{any-cong, any-intro, any-elim}
 use Rattle.grammar.specs.Judge.{Out, fault, done}
 use Rattle.register.specs.Outcome.{judged, stateOf, namesRow}
 use Rattle.register.specs.Model.{Model, check, outcome, stateM, refersM, standingM, touched, filedM}

@@ -15,7 +15,7 @@ use Rattle.grammar.proofs.Bounds.{Ends, ends-judge, reading-enough}
 use Rattle.grammar.proofs.Refusals.{judge-refuses}
 use Rattle.reader.specs.Answer.{answerOf, tableOf}
 use Rattle.reader.specs.declared.Answer.{Answer}
-use Rattle.reach.specs.Bits.{emptied}
+use Rattle.bits.specs.Bits.{emptied}
 use Rattle.register.specs.Size.{tableSize}
 use Rattle.register.specs.Named.{collected, namedBy}
 use Rattle.register.specs.Calls.{findingOf}

@@ -7,9 +7,9 @@ use lib.ListN.{getD, replicate, length-replicate}
 use native.Mathlib.Omega.{arith}
 use borrow.Author.Tests.{lt-ltb, le-ltb}
 use Rattle.reach.specs.Reach.{thru}
-use Rattle.reach.specs.Bits.{at}
-use Rattle.reach.specs.Standing.{cleared, filled, losesIn, standingIn}
-use Rattle.reach.proofs.Standings.{standing-in, loses-in, filled-cong, getD-filled}
+use Rattle.bits.specs.Bits.{at}
+use Rattle.standing.specs.Standing.{cleared, filled, losesIn, standingIn}
+use Rattle.standing.proofs.Standings.{standing-in, loses-in, filled-cong, getD-filled}
 use Rattle.register.specs.Size.{maxSize, words}
 use Rattle.register.specs.Calls.{marksAfter, standingOf, standingsOf}
 use Rattle.register.specs.declared.Register.{Register}

@@ -14,11 +14,11 @@ use lib.Seq.{getD-set-same, getD-set-other}
 use lib.Dec.{ltb, eqb}
 use borrow.Author.Tests.{le-ltb, eq-eqb, ne-eqb, ltb-false, eqb-true}
 use Rattle.reach.specs.Reach.{thru}
-use Rattle.reach.specs.Bits.{at, bit}
-use Rattle.reach.specs.Standing.{standing}
-use Rattle.reach.proofs.BitLaws.{zero-bit}
+use Rattle.bits.specs.Bits.{at, bit}
+use Rattle.standing.specs.Standing.{standing}
+use Rattle.bits.proofs.BitLaws.{zero-bit}
 use Rattle.reach.proofs.Reaching.{thru-cong}
-use Rattle.reach.proofs.Standings.{standing-cong, length-cleared, getD-cleared}
+use Rattle.standing.proofs.Standings.{standing-cong, length-cleared, getD-cleared}
 use Rattle.grammar.specs.Limits.{maxRows}
 use Rattle.grammar.specs.Judge.{Out, fault, done}
 use Rattle.grammar.proofs.Bounds.{ends-judge}

@@ -7,8 +7,8 @@ use mathlib.Core.Bool.{cond, _||_}
 use lib.ListN.{set, getD, replicate}
 use lib.Dec.{ltb, eqb}
 use Rattle.reach.specs.Reach.{Graph, thru}
-use Rattle.reach.specs.Bits.{at}
-use Rattle.reach.specs.Standing.{standing, cleared, filled}
+use Rattle.bits.specs.Bits.{at}
+use Rattle.standing.specs.Standing.{standing, cleared, filled}
 use Rattle.grammar.specs.Limits.{maxRows}
 use Rattle.grammar.specs.Judge.{Out}
 use Rattle.register.specs.Size.{maxSize, words}

@@ -5,7 +5,7 @@ use mathlib.Core.Bool.{cond}
 use mathlib.Core.List.{List}
 use lib.ListN.{getD}
 use lib.Dec.{leb, eqb}
-use Rattle.reach.specs.Bits.{putBit, emptied}
+use Rattle.bits.specs.Bits.{putBit, emptied}
 use Rattle.grammar.specs.Table.{flat}
 use Rattle.grammar.specs.Judge.{Out, fault, done}
 use Rattle.register.specs.Outcome.{isMod}

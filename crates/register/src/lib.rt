@@ -3,7 +3,7 @@ ghost use mathlib.Core.Path.{_≡_};
 ghost use Prim.Native.Nat.{ℕ, _+_, _*_, _≤_, _<_};
 ghost use lib.ListN.{length};
 ghost use Rattle.reach.specs.Reach.{thru};
-ghost use Rattle.reach.specs.Bits.{at};
+ghost use Rattle.bits.specs.Bits.{at};
 ghost use Rattle.grammar.specs.Judge.{judge};
 ghost use Rattle.register.specs.Size.{maxSize, words};
 ghost use Rattle.register.specs.Outcome.{judged};
@@ -138,7 +138,7 @@ fn standing_at(g: Register, i: usize) -> u32
     let names = g.names;
     let m = closed(names, n);
     let states = g.states;
-    reach::standing_of(&m, WORDS, &states, n, i)
+    standing::standing_of(&m, WORDS, &states, n, i)
 }
 
 // The standings of all rows, in their order, by one closure; 0 behind the last row, and for a size above 64 everywhere.
@@ -153,7 +153,7 @@ pub fn standings(g: Register) -> [u32; SIZE]
     let names = g.names;
     let m = closed(names, n);
     let states = g.states;
-    reach::standings_of(&mut all, &m, WORDS, &states, n);
+    standing::standings_of(&mut all, &m, WORDS, &states, n);
     all
 }
 
@@ -166,7 +166,7 @@ fn marks_after(g: Register, i: usize) -> [u32; SIZE]
     let names = g.names;
     let m = closed(names, n);
     let mut marks = g.marks;
-    reach::unmark(&mut marks, &m, WORDS, n, i);
+    standing::unmark(&mut marks, &m, WORDS, n, i);
     marks
 }
 
@@ -175,7 +175,7 @@ fn judge_row(names: &mut [u32], i: usize, counts: Counts, blob: &[u8]) -> Findin
     requires { ⌜ i * words + words ≤ length (now names) ⌝ }
     ensures { λ r. ⌜ (r ≡ findingOf (judge 0 counts (now (blob .entry)))) × (now (names .exit) ≡ namedBy words (judge 0 counts (now (blob .entry))) i (now (names .entry))) ⌝ }
 {
-    reach::empty(names, WORDS, i);
+    bits::empty(names, WORDS, i);
     let mut table = [0u32; TABLE];
     let answer = reader::read(0, counts, blob, &mut table);
     let code = answer.code;

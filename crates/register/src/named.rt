@@ -42,7 +42,7 @@ pub fn collect(m: &mut [u32], w: usize, i: usize, t: &[u32], n: usize)
     for k in 0..n {
         let r = row_named(t, k, w);
         if r != 0 {
-            reach::put(m, w, i, r - 1);
+            bits::put(m, w, i, r - 1);
         }
     }
 }

@@ -5,7 +5,7 @@ use native.Mathlib.Omega.{arith}
 use mathlib.Core.Path.{subst, sym}
 use denote.Ref.{now}
 use Rattle.reach.specs.Closing.{RowRelaxed}
-use Rattle.reach.proofs.BitLaws.{row-in, rows-apart}
+use Rattle.bits.proofs.BitLaws.{row-in, rows-apart}
 use Rattle.reach.proofs.Closures.{relaxed-or, relaxed-not, relaxed-self}
 use Rattle.reach.proofs.relax_row.Statement.{statement}
 use Rattle.reach.proofs.relax_row.Tie as tie

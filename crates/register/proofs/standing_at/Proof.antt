@@ -4,7 +4,7 @@ use mathlib.Core.Path.{_≡_, _∙_}
 use native.Mathlib.Omega.{arith}
 use Prim.Native.Nat.{_*_}
 use lib.ListN.{length}
-use Rattle.reach.proofs.Standings.{standing-in}
+use Rattle.standing.proofs.Standings.{standing-in}
 use Rattle.register.specs.Size.{maxSize, words}
 use Rattle.register.proofs.standing_at.Statement.{statement}
 use Rattle.register.proofs.standing_at.Tie as tie

@@ -7,7 +7,7 @@ use mathlib.Core.Logic.{⊎-elim}
 use mathlib.Core.List.{List}
 use lib.ListN.{length}
 use denote.Ref.{now}
-use Rattle.reach.specs.Bits.{putBit}
+use Rattle.bits.specs.Bits.{putBit}
 use Rattle.register.specs.Named.{rowNamed, collected}
 use Rattle.register.proofs.Collects.{collected-none, collected-put, collected-kept, length-collected, row-le}
 use Rattle.register.proofs.named.collect.Statement.{statement}

@@ -1,4 +1,4 @@
--- `reach::empty` meets its contract. Assumes nothing.
+-- `bits::empty` meets its contract. Assumes nothing.
 use borrow.Author.Needs.{needs}
 use Prim.Native.Nat.{ℕ, _+_, _≤_, _-_, _*_}
 use native.Mathlib.Omega.{arith}
@@ -6,10 +6,10 @@ use mathlib.Core.Path.{_≡_, ap, _∙_, subst}
 use mathlib.Core.List.{List}
 use lib.ListN.{length, set}
 use denote.Ref.{now}
-use Rattle.reach.specs.Bits.{zeroed}
-use Rattle.reach.proofs.BitLaws.{zeroed-none, zeroed-more, length-zeroed}
-use Rattle.reach.proofs.empty.Statement.{statement}
-use Rattle.reach.proofs.empty.Tie as tie
+use Rattle.bits.specs.Bits.{zeroed}
+use Rattle.bits.proofs.BitLaws.{zeroed-none, zeroed-more, length-zeroed}
+use Rattle.bits.proofs.empty.Statement.{statement}
+use Rattle.bits.proofs.empty.Tie as tie
 
 abbrev Inv-loop : tie.InvT-loop
 Inv-loop m₀ w r d x₀ m x = (x ≤ w) × (m ≡ zeroed m₀ (r * w) x)

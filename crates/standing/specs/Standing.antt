@@ -5,8 +5,8 @@ use mathlib.Core.List.{List}
 use mathlib.Core.Bool.{Bool, false, cond, _||_, _&&_}
 use lib.ListN.{set, getD}
 use lib.Dec.{ltb, eqb}
 use Rattle.reach.specs.Reach.{Graph, thru}
-use Rattle.reach.specs.Bits.{at}
+use Rattle.bits.specs.Bits.{at}
 
 -- a test holds of some index below n
 unfoldable pub any : ℕ → (ℕ → Bool) → Bool

@@ -1,8 +1,8 @@
--- `reach::loses` meets its contract. Assumes nothing.
+-- `standing::loses` meets its contract. Assumes nothing.
 use borrow.Author.Needs.{needs}
 use borrow.Author.Tests.{eq-eqb, ne-eqb}
-use Rattle.reach.proofs.loses.Statement.{statement}
-use Rattle.reach.proofs.loses.Tie as tie
+use Rattle.standing.proofs.loses.Statement.{statement}
+use Rattle.standing.proofs.loses.Tie as tie
 
 pub loses-spec : {M : Type 1} → statement M
 loses-spec =

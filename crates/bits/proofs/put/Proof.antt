@@ -1,15 +1,15 @@
--- `reach::put` meets its contract. Assumes nothing.
+-- `bits::put` meets its contract. Assumes nothing.
 use borrow.Author.Needs.{needs}
-use Rattle.reach.specs.Bits.{putBit}
-use Rattle.reach.proofs.BitLaws.{one-shift}
+use Rattle.bits.specs.Bits.{putBit}
+use Rattle.bits.proofs.BitLaws.{one-shift}
 use Prim.Native.Nat.{ℕ, _+_, _*_, _/_, _%_}
 use mathlib.Core.Path.{ap}
 use lib.ListN.{set, getD}
 use lib.Bits.{bitOr}
 use denote.Ref.{now}
 use native.Mathlib.Omega.{arith}
-use Rattle.reach.proofs.put.Statement.{statement}
-use Rattle.reach.proofs.put.Tie as tie
+use Rattle.bits.proofs.put.Statement.{statement}
+use Rattle.bits.proofs.put.Tie as tie
 
 returns : tie.Need-returns
 unfolding putBit

@@ -1,11 +1,11 @@
--- `reach::standing_of` meets its contract. Assumes nothing.
+-- `standing::standing_of` meets its contract. Assumes nothing.
 use borrow.Author.Needs.{needs}
 use native.Mathlib.Omega.{arith}
 use denote.Ref.{now}
-use Rattle.reach.proofs.BitLaws.{row-in}
-use Rattle.reach.proofs.Standings.{stands-unaccepted, stands-loop, stands-leans, stands-clean}
-use Rattle.reach.proofs.standing_of.Statement.{statement}
-use Rattle.reach.proofs.standing_of.Tie as tie
+use Rattle.bits.proofs.BitLaws.{row-in}
+use Rattle.standing.proofs.Standings.{stands-unaccepted, stands-loop, stands-leans, stands-clean}
+use Rattle.standing.proofs.standing_of.Statement.{statement}
+use Rattle.standing.proofs.standing_of.Tie as tie
 
 pub standing-of-spec : {M : Type 1} → statement M
 standing-of-spec =

@@ -13,11 +13,11 @@ use lib.ListN.{length, getD, set, length-set}
 use lib.Seq.{getD-set-same, getD-set-other}
 use lib.Dec.{eqb, ltb}
 use borrow.Author.Tests.{lt-ltb, le-ltb, ne-eqb}
 use Rattle.reach.specs.Reach.{Graph, thru}
 use Rattle.reach.proofs.Bools.{or-left, or-right, or-cases}
 use Rattle.reach.proofs.Reaching.{thru-cong}
-use Rattle.reach.specs.Standing.{any, trouble, leaning, standing, cleared, filled, leansIn, losesIn, standingIn}
-use Rattle.reach.specs.Bits.{at}
+use Rattle.standing.specs.Standing.{any, trouble, leaning, standing, cleared, filled, leansIn, losesIn, standingIn}
+use Rattle.bits.specs.Bits.{at}
 
 pub any-intro : (n : ℕ) (p : ℕ → Bool) (j : ℕ) → j < n → p j ≡ true → any n p ≡ true
 unfolding any

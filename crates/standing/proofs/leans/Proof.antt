@@ -1,15 +1,15 @@
--- `reach::leans` meets its contract. Assumes nothing.
+-- `standing::leans` meets its contract. Assumes nothing.
 use borrow.Author.Needs.{needs}
 use mathlib.Core.Path.{_≡_, sym, _∙_, subst}
 use native.Mathlib.Omega.{arith}
 use Prim.Native.Nat.{ℕ, _≤_, _-_}
 use mathlib.Core.Bool.{false}
 use denote.Ref.{now}
-use Rattle.reach.specs.Standing.{any, leansIn}
-use Rattle.reach.proofs.Standings.{any-none, any-more, any-intro}
-use Rattle.reach.proofs.BitLaws.{row-in}
-use Rattle.reach.proofs.leans.Statement.{statement}
-use Rattle.reach.proofs.leans.Tie as tie
+use Rattle.standing.specs.Standing.{any, leansIn}
+use Rattle.standing.proofs.Standings.{any-none, any-more, any-intro}
+use Rattle.bits.proofs.BitLaws.{row-in}
+use Rattle.standing.proofs.leans.Statement.{statement}
+use Rattle.standing.proofs.leans.Tie as tie
 
 abbrev Inv-loop : tie.InvT-loop
 Inv-loop m w states n i j₀ j = (j ≤ n) × (any j (leansIn w m states i) ≡ false)

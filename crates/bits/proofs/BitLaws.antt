@@ -15,7 +15,7 @@ use lib.Seq.{getD-set-same, getD-set-other}
 use lib.ListN.{length, getD, set, length-set}
 use lib.Dec.{eqb}
 use lib.Bits.{bitOr, or-shr, or-step}
-use Rattle.reach.specs.Bits.{bit, at, putBit, zeroed}
+use Rattle.bits.specs.Bits.{bit, at, putBit, zeroed}
 
 -- ---- where a row's words stand
 

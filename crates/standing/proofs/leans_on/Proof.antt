@@ -1,9 +1,9 @@
--- `reach::leans_on` meets its contract. Assumes nothing.
+-- `standing::leans_on` meets its contract. Assumes nothing.
 use borrow.Author.Needs.{needs}
 use borrow.Author.Tests.{lt-ltb, le-ltb}
 use mathlib.Core.Path.{sym, _∙_}
-use Rattle.reach.proofs.leans_on.Statement.{statement}
-use Rattle.reach.proofs.leans_on.Tie as tie
+use Rattle.standing.proofs.leans_on.Statement.{statement}
+use Rattle.standing.proofs.leans_on.Tie as tie
 
 returns-2 : tie.Need-returns-2
 returns-2 c =

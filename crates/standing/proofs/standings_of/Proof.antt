@@ -1,4 +1,4 @@
--- `reach::standings_of` meets its contract. Assumes nothing.
+-- `standing::standings_of` meets its contract. Assumes nothing.
 use borrow.Author.Needs.{needs}
 use mathlib.Core.Path.{_≡_, ap, _∙_, subst}
 use native.Mathlib.Omega.{arith}
@@ -6,10 +6,10 @@ use Prim.Native.Nat.{ℕ, _≤_, _-_}
 use mathlib.Core.List.{List}
 use lib.ListN.{set, length}
 use denote.Ref.{now}
-use Rattle.reach.specs.Standing.{filled, standingIn}
-use Rattle.reach.proofs.Standings.{filled-none, filled-more, length-filled}
-use Rattle.reach.proofs.standings_of.Statement.{statement}
-use Rattle.reach.proofs.standings_of.Tie as tie
+use Rattle.standing.specs.Standing.{filled, standingIn}
+use Rattle.standing.proofs.Standings.{filled-none, filled-more, length-filled}
+use Rattle.standing.proofs.standings_of.Statement.{statement}
+use Rattle.standing.proofs.standings_of.Tie as tie
 
 abbrev Inv-loop : tie.InvT-loop
 Inv-loop all₀ m w states n i₀ all i = (i ≤ n) × (all ≡ filled all₀ i (standingIn w m states n))

@@ -1,4 +1,4 @@
--- `reach::unmark` meets its contract. Assumes nothing.
+-- `standing::unmark` meets its contract. Assumes nothing.
 use borrow.Author.Needs.{needs}
 use mathlib.Core.Path.{_≡_, sym, ap, _∙_, subst}
 use native.Mathlib.Omega.{arith}
@@ -7,11 +7,11 @@ use mathlib.Core.Logic.{⊎-elim}
 use mathlib.Core.List.{List}
 use lib.ListN.{set, length}
 use denote.Ref.{now}
-use Rattle.reach.specs.Standing.{cleared, losesIn}
-use Rattle.reach.proofs.Standings.{cleared-none, cleared-set, cleared-kept, length-cleared}
-use Rattle.reach.proofs.BitLaws.{row-in}
-use Rattle.reach.proofs.unmark.Statement.{statement}
-use Rattle.reach.proofs.unmark.Tie as tie
+use Rattle.standing.specs.Standing.{cleared, losesIn}
+use Rattle.standing.proofs.Standings.{cleared-none, cleared-set, cleared-kept, length-cleared}
+use Rattle.bits.proofs.BitLaws.{row-in}
+use Rattle.standing.proofs.unmark.Statement.{statement}
+use Rattle.standing.proofs.unmark.Tie as tie
 
 abbrev Inv-loop : tie.InvT-loop
 Inv-loop marks₀ m w n i j₀ marks j = (j ≤ n) × (marks ≡ cleared marks₀ j (losesIn w m i))

@@ -1,8 +1,8 @@
--- `reach::get` meets its contract. Assumes nothing.
+-- `bits::get` meets its contract. Assumes nothing.
 use borrow.Author.Needs.{needs}
-use Rattle.reach.specs.Bits.{at, bit}
-use Rattle.reach.proofs.get.Statement.{statement}
-use Rattle.reach.proofs.get.Tie as tie
+use Rattle.bits.specs.Bits.{at, bit}
+use Rattle.bits.proofs.get.Statement.{statement}
+use Rattle.bits.proofs.get.Tie as tie
 
 returns : tie.Need-returns
 unfolding at bit
