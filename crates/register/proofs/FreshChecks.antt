@@ -17,10 +17,10 @@ use Rattle.reach.proofs.Bools.{bool-ext, or-cases, or-right, and-both, both}
 use Rattle.reach.proofs.Reaching.{thru-decides, AgreeOff, reach-to, reach-off, join}
 use Rattle.standing.proofs.Standings.{any-cong, any-intro, any-elim}
 use Rattle.grammar.specs.Judge.{Out, fault, done}
-use Rattle.register.specs.Outcome.{judged, stateOf, namesRow}
+use Rattle.filing.specs.Outcome.{judged, stateOf, namesRow}
 use Rattle.register.specs.Model.{Model, check, outcome, stateM, refersM, standingM, touched, filedM}
 use Rattle.register.specs.History.{Troubled, empty, bad, looping, Stands, EMPTY, BAD, LOOP, LEANS, CLEAN}
-use Rattle.register.proofs.Within.{names-within}
+use Rattle.filing.proofs.Within.{names-within}
 
 -- what a row names is a row
 named-in : (b : Model) (x : Option (List ℕ)) (j : ℕ) → namesRow (check (judged (b .defs) (b .refs) (b .rows)) x) (j + 1) ≡ true → j < b .rows

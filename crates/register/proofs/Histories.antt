@@ -13,7 +13,7 @@ use borrow.Author.Tests.{eq-eqb, ne-eqb, eqb-true, eqb-false, ltb-false}
 use Rattle.reach.specs.Reach.{Reach}
 use Rattle.reach.proofs.Bools.{or-left, or-right}
 use Rattle.grammar.specs.Judge.{Out}
-use Rattle.register.specs.Outcome.{codeOf, placeOf}
+use Rattle.filing.specs.Outcome.{codeOf, placeOf}
 use Rattle.register.specs.Model.{Model, Call, filing, acknowledging, asking, Answer, number, report, outcome, refersM, standingM, touched, gateM, filedM, markedM, ackM, answerM, nextM, endM, emptyM, openingM, openedM}
 use Rattle.register.specs.History.{Safe, Kept, nil, more, Marked, here, later}
 use Rattle.register.specs.Demand.{butMark}

@@ -1,9 +1,6 @@
 pub mod Gates
 pub mod RowStandings
-pub mod Collects
-pub mod Judging
 pub mod Simulation
-pub mod Within
 pub mod FreshChecks
 pub mod Histories
 pub mod Demand

@@ -11,7 +11,7 @@ use Rattle.register.specs.Size.{maxSize}
 use Rattle.register.specs.declared.Register.{Register}
 use Rattle.register.specs.declared.Changed.{Changed}
 use Rattle.register.specs.declared.Asked.{Asked}
-use Rattle.register.specs.Outcome.{judged}
+use Rattle.filing.specs.Outcome.{judged}
 use Rattle.register.specs.Model.{ackCode}
 use Rattle.register.specs.Calls.{blank, changed, openOf, gate, filed, fileOf, standingOf, marked, ackAt, ackOf, told, askAt, askOf}
 

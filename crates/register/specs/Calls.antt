@@ -11,14 +11,16 @@ use Rattle.bits.specs.Bits.{at}
 use Rattle.standing.specs.Standing.{standing, cleared, filled}
 use Rattle.grammar.specs.Limits.{maxRows}
 use Rattle.grammar.specs.Judge.{Out}
-use Rattle.register.specs.Size.{maxSize, words}
-use Rattle.register.specs.Outcome.{judged, stateOf, codeOf, placeOf}
-use Rattle.register.specs.Named.{namedBy}
+use Rattle.register.specs.Size.{maxSize}
+use Rattle.filing.specs.Size.{words}
+use Rattle.filing.specs.Outcome.{stateOf, codeOf, placeOf}
+use Rattle.filing.specs.Named.{namedBy}
 use Rattle.register.specs.Model.{ackCode}
 use Rattle.register.specs.declared.Register.{Register}
 use Rattle.register.specs.declared.Changed.{Changed}
 use Rattle.register.specs.declared.Asked.{Asked}
-use Rattle.register.specs.declared.Finding.{Finding}
+-- passed on, since `fileOf` goes by it
+pub use Rattle.filing.specs.Outcome.{judged}
 
 -- a register with these counts and rows, nothing filed and nothing marked
 abbrev pub blank : (defs refs rows : ℕ) → Register
@@ -45,10 +47,6 @@ openOf defs refs rows =
 -- "Filing, asking and acknowledging first answer 19 for a register whose row number is above 64"; then 16 "row not in 1..rows"; else 0
 unfoldable pub gate : (rows row : ℕ) → ℕ
 gate rows row = cond (ltb maxSize rows) 19 (cond (eqb row 0 || ltb rows row) 16 0)
-
--- what is kept of a judged blob beside its set of rows
-abbrev pub findingOf : Out → Finding
-findingOf o = record { state = stateOf (some o); code = codeOf (some o); place = placeOf (some o) }
 
 -- row i refers to row j, by the sets kept
 abbrev pub refers : Register → Graph

@@ -1,6 +1,4 @@
 pub mod Size
-pub mod Outcome
-pub mod Named
 pub mod Model
 pub mod Calls
 pub mod History

@@ -10,7 +10,7 @@ use Rattle.standing.specs.Standing.{standing}
 use Rattle.grammar.specs.Limits.{maxRows}
 use Rattle.grammar.specs.Judge.{Out}
 use Rattle.register.specs.Size.{maxSize}
-use Rattle.register.specs.Outcome.{judged, stateOf, codeOf, placeOf, namesRow}
+use Rattle.filing.specs.Outcome.{judged, stateOf, codeOf, placeOf, namesRow}
 
 -- "It has, for each row, the last blob filed or none, and a mark or none": 0 is no mark
 pub record Model : Type 0 where

@@ -1,28 +1,20 @@
 // The register of the TypeSpec rows of one module, a struct by value. Row r has the index r - 1.
 ghost use mathlib.Core.Path.{_≡_};
-ghost use Prim.Native.Nat.{ℕ, _+_, _*_, _≤_, _<_};
-ghost use lib.ListN.{length};
+ghost use Prim.Native.Nat.{ℕ, _*_, _≤_, _<_};
 ghost use Rattle.reach.specs.Reach.{thru};
 ghost use Rattle.bits.specs.Bits.{at};
-ghost use Rattle.grammar.specs.Judge.{judge};
-ghost use Rattle.register.specs.Size.{maxSize, words};
-ghost use Rattle.register.specs.Outcome.{judged};
-ghost use Rattle.register.specs.Named.{namedBy};
+ghost use Rattle.filing.specs.Size.{words};
+ghost use Rattle.filing.specs.Outcome.{judged};
+ghost use Rattle.register.specs.Size.{maxSize};
 ghost use Rattle.register.specs.Model.{ackCode};
-ghost use Rattle.register.specs.Calls.{blank, openOf, gate, findingOf, filed, fileOf, marksAfter, ackAt, ackOf, askedOf, askAt, askOf, standingOf, standingsOf};
-use grammar::MAX_NODES;
+ghost use Rattle.register.specs.Calls.{blank, openOf, gate, filed, fileOf, marksAfter, ackAt, ackOf, askedOf, askAt, askOf, standingOf, standingsOf};
+use filing::WORDS;
+use filing::judge_row;
 use grammar::MAX_ROWS;
 use number::token::Counts;
 
-mod named;
-
-// The most rows, and the words of 32 bits that hold a row's set of rows.
+// The most rows.
 pub const SIZE: usize = 64;
-
-const WORDS: usize = 2;
-
-// The numbers of a node table that has a record for every node.
-const TABLE: usize = 6 * MAX_NODES;
 
 pub struct Register {
     // the row counts of TypeDef and TypeRef
@@ -53,13 +45,6 @@ pub struct Asked {
     pub finding: u32,
     pub place: usize,
     pub mark: u32,
-}
-
-// What is kept of a judged blob beside its set of rows.
-struct Finding {
-    pub state: u32,
-    pub code: u32,
-    pub place: usize,
 }
 
 fn blank_register(defs: u32, refs: u32, rows: usize) -> Register
@@ -168,31 +153,6 @@ fn marks_after(g: Register, i: usize) -> [u32; SIZE]
     let mut marks = g.marks;
     standing::unmark(&mut marks, &m, WORDS, n, i);
     marks
-}
-
-// Judges a blob for row i, whose set of rows is written to `names`.
-fn judge_row(names: &mut [u32], i: usize, counts: Counts, blob: &[u8]) -> Finding
-    requires { ⌜ i * words + words ≤ length (now names) ⌝ }
-    ensures { λ r. ⌜ (r ≡ findingOf (judge 0 counts (now (blob .entry)))) × (now (names .exit) ≡ namedBy words (judge 0 counts (now (blob .entry))) i (now (names .entry))) ⌝ }
-{
-    bits::empty(names, WORDS, i);
-    let mut table = [0u32; TABLE];
-    let answer = reader::read(0, counts, blob, &mut table);
-    let code = answer.code;
-    let place = answer.place;
-    if code != 0 {
-        return Finding {
-            state: 1,
-            code,
-            place,
-        };
-    }
-    named::collect(names, WORDS, i, &table, place);
-    Finding {
-        state: 2,
-        code: 0,
-        place: 0,
-    }
 }
 
 fn file_at(g: Register, i: usize, blob: &[u8]) -> Register

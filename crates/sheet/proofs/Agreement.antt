@@ -12,8 +12,7 @@ use borrow.Author.Tests.{le-ltb, ne-eqb, eqb-true, ltb-false}
 use Rattle.grammar.specs.Limits.{maxRows}
 use Rattle.register.specs.Size.{maxSize}
 use Rattle.register.specs.Model.{ackCode}
-use Rattle.register.specs.Calls.{blank, changed, openOf, gate, filed, fileOf, standingOf, standingsOf, marked, ackAt, ackOf, askAt, askOf}
-use Rattle.register.specs.Outcome.{judged}
+use Rattle.register.specs.Calls.{blank, changed, openOf, gate, judged, filed, fileOf, standingOf, standingsOf, marked, ackAt, ackOf, askAt, askOf}
 use Rattle.register.specs.declared.Register.{Register}
 use Rattle.register.proofs.Gates.{gate-ok}
 use Rattle.register.proofs.RowStandings.{standings-at}

@@ -4,7 +4,8 @@ use Prim.Native.Nat.{_*_}
 use mathlib.Core.Path.{_≡_}
 use native.Mathlib.Omega.{arith}
 use lib.ListN.{length}
-use Rattle.register.specs.Size.{maxSize, words}
+use Rattle.filing.specs.Size.{words}
+use Rattle.register.specs.Size.{maxSize}
 use Rattle.register.proofs.RowStandings.{marks-left}
 use Rattle.register.proofs.marks_after.Statement.{statement}
 use Rattle.register.proofs.marks_after.Tie as tie

@@ -8,7 +8,7 @@ use lib.Dec.{leb, eqb}
 use Rattle.bits.specs.Bits.{putBit, emptied}
 use Rattle.grammar.specs.Table.{flat}
 use Rattle.grammar.specs.Judge.{Out, fault, done}
-use Rattle.register.specs.Outcome.{isMod}
+use Rattle.filing.specs.Outcome.{isMod}
 
 -- the row that record k names: 0 unless it is a modifier whose token has the tag 2 and a row from 1 to 32 * w
 unfoldable pub rowNamed : ℕ → List ℕ → ℕ → ℕ

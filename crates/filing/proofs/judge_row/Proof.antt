@@ -1,9 +1,9 @@
--- `register::judge_row` meets its contract. Assumes nothing.
+-- `filing::judge_row` meets its contract. Assumes nothing.
 use borrow.Author.Needs.{needs}
 use native.Mathlib.Omega.{arith}
-use Rattle.register.proofs.Judging.{row-refused, row-accepted, row-nodes}
-use Rattle.register.proofs.judge_row.Statement.{statement}
-use Rattle.register.proofs.judge_row.Tie as tie
+use Rattle.filing.proofs.Judging.{row-refused, row-accepted, row-nodes}
+use Rattle.filing.proofs.judge_row.Statement.{statement}
+use Rattle.filing.proofs.judge_row.Tie as tie
 
 pub judge-row-spec : {M : Type 1} → statement M
 judge-row-spec =

@@ -29,7 +29,7 @@ use Rattle.grammar.specs.Judge.{Out, fault, done, numbered, many, bound, Reader
 use Rattle.grammar.specs.declared.Node.{Node}
 use Rattle.grammar.proofs.Sound.{Holds, stopped, holds, holds-bind, holds-check, holds-opened, both-left, both-right}
 use Rattle.reach.proofs.Bools.{or-cases, or-left, or-right, and-both}
-use Rattle.register.specs.Outcome.{judged, isMod, isModOf, has, namesRow}
+use Rattle.filing.specs.Outcome.{judged, isMod, isModOf, has, namesRow}
 
 -- ---- a modifier's kind is a modifier's
 

@@ -1,12 +1,12 @@
--- `register::named::row_named` meets its contract. Assumes nothing.
+-- `filing::named::row_named` meets its contract. Assumes nothing.
 use borrow.Author.Needs.{needs}
 use borrow.Author.Tests.{eq-eqb, ne-eqb, le-leb, lt-leb}
 use mathlib.Core.Path.{sym, _∙_}
 use native.Mathlib.Omega.{arith}
 use Prim.Native.Nat.{_*_, _+_}
-use Rattle.register.specs.Named.{rowNamed}
-use Rattle.register.proofs.named.row_named.Statement.{statement}
-use Rattle.register.proofs.named.row_named.Tie as tie
+use Rattle.filing.specs.Named.{rowNamed}
+use Rattle.filing.proofs.named.row_named.Statement.{statement}
+use Rattle.filing.proofs.named.row_named.Tie as tie
 
 returns : tie.Need-returns
 unfolding rowNamed

@@ -1,7 +1,7 @@
--- `register::named::is_modifier` meets its contract. Assumes nothing.
+-- `filing::named::is_modifier` meets its contract. Assumes nothing.
 use borrow.Author.Tests.{eq-eqb, ne-eqb}
-use Rattle.register.proofs.named.is_modifier.Statement.{statement}
-use Rattle.register.proofs.named.is_modifier.Tie as tie
+use Rattle.filing.proofs.named.is_modifier.Statement.{statement}
+use Rattle.filing.proofs.named.is_modifier.Tie as tie
 
 pub is-modifier-spec : {M : Type 1} → statement M
 is-modifier-spec =

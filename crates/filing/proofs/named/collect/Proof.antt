@@ -1,4 +1,4 @@
--- `register::named::collect` meets its contract. Assumes nothing.
+-- `filing::named::collect` meets its contract. Assumes nothing.
 use borrow.Author.Needs.{needs}
 use Prim.Native.Nat.{ℕ, _≤_, _-_}
 use native.Mathlib.Omega.{arith}
@@ -8,10 +8,10 @@ use mathlib.Core.List.{List}
 use lib.ListN.{length}
 use denote.Ref.{now}
 use Rattle.bits.specs.Bits.{putBit}
-use Rattle.register.specs.Named.{rowNamed, collected}
-use Rattle.register.proofs.Collects.{collected-none, collected-put, collected-kept, length-collected, row-le}
-use Rattle.register.proofs.named.collect.Statement.{statement}
-use Rattle.register.proofs.named.collect.Tie as tie
+use Rattle.filing.specs.Named.{rowNamed, collected}
+use Rattle.filing.proofs.Collects.{collected-none, collected-put, collected-kept, length-collected, row-le}
+use Rattle.filing.proofs.named.collect.Statement.{statement}
+use Rattle.filing.proofs.named.collect.Tie as tie
 
 abbrev Inv-loop : tie.InvT-loop
 Inv-loop m₀ w i t n k₀ m k = (k ≤ n) × (m ≡ collected w t k i m₀)

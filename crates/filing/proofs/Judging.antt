@@ -16,11 +16,11 @@ use Rattle.grammar.proofs.Refusals.{judge-refuses}
 use Rattle.reader.specs.Answer.{answerOf, tableOf}
 use Rattle.reader.specs.declared.Answer.{Answer}
 use Rattle.bits.specs.Bits.{emptied}
-use Rattle.register.specs.Size.{tableSize}
-use Rattle.register.specs.Named.{collected, namedBy}
-use Rattle.register.specs.Calls.{findingOf}
-use Rattle.register.specs.declared.Finding.{Finding}
-use Rattle.register.proofs.Collects.{collected-cong, named-front}
+use Rattle.filing.specs.Size.{tableSize}
+use Rattle.filing.specs.Named.{collected, namedBy}
+use Rattle.filing.specs.Kept.{findingOf}
+use Rattle.filing.specs.declared.Finding.{Finding}
+use Rattle.filing.proofs.Collects.{collected-cong, named-front}
 
 abbrev finding : (state code place : ℕ) → Finding
 finding state code place = record { state = state; code = code; place = place }

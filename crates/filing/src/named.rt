@@ -2,8 +2,8 @@
 ghost use mathlib.Core.Path.{_≡_};
 ghost use Prim.Native.Nat.{_+_, _*_, _≤_};
 ghost use lib.ListN.{length};
-ghost use Rattle.register.specs.Outcome.{isMod};
-ghost use Rattle.register.specs.Named.{rowNamed, collected};
+ghost use Rattle.filing.specs.Outcome.{isMod};
+ghost use Rattle.filing.specs.Named.{rowNamed, collected};
 
 // CMOD_REQD or CMOD_OPT.
 fn is_modifier(kind: u32) -> bool

@@ -23,8 +23,8 @@ use Rattle.bits.specs.Bits.{at, putBit, zeroed}
 use Rattle.standing.specs.Standing.{any}
 use Rattle.bits.proofs.BitLaws.{at-put, at-put-other, length-put, length-zeroed, at-emptied, at-emptied-other, eqb-same}
 use Rattle.standing.proofs.Standings.{any-cong}
-use Rattle.register.specs.Outcome.{isMod, isModOf, has, namesRow}
-use Rattle.register.specs.Named.{rowNamed, collected, namedBy}
+use Rattle.filing.specs.Outcome.{isMod, isModOf, has, namesRow}
+use Rattle.filing.specs.Named.{rowNamed, collected, namedBy}
 
 cond-le : (b : Bool) (x n : ℕ) → leb x n ≡ b → cond b x 0 ≤ n
 cond-le true x n e = leb-true x n e

@@ -1,0 +1,3 @@
+pub mod Collects
+pub mod Judging
+pub mod Within

@@ -1,0 +1,4 @@
+pub mod Size
+pub mod Outcome
+pub mod Named
+pub mod Kept
