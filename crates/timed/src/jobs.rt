@@ -10,23 +10,27 @@ const ROUNDS: usize = 1000;
 
 const ROWS: usize = 64;
 
-// The offset after the numbers that stand one after the other in a slice, by the step that the reader takes.
-fn end_of(s: &[u8]) -> usize {
+// The sum of the numbers that stand one after the other in a slice, by the step that the reader takes.
+fn sum_of(s: &[u8]) -> u64 {
+    let mut sum: u64 = 0;
     let mut at = 0;
     while at < s.len() {
         match number::checked::checked_at(s, at) {
-            Checked::Good { value: _, next } => at = next,
-            Checked::Bad { code: _ } => return at,
+            Checked::Good { value, next } => {
+                sum = std::num::wrapping_add_u64(sum, value as u64);
+                at = next;
+            }
+            Checked::Bad { code: _ } => return sum,
         }
     }
-    at
+    sum
 }
 
 pub fn numbers() -> u64 {
     let bytes = [5u8; NUMBERS];
     let mut sum: u64 = 0;
     for _ in 0..NUMBER_ROUNDS {
-        sum = sum % 0x100000000 + end_of(&bytes) as u64 % 0x100000000;
+        sum = sum % 0x100000000 + sum_of(&bytes) % 0x100000000;
     }
     sum
 }
