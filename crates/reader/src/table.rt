@@ -47,8 +47,8 @@ fn has_table_in(seen: &mut [u32], kind: u32, counts: Counts, blob: &[u8], table:
 pub fn has_table(kind: u32, counts: Counts, blob: &[u8], table: &[u32]) -> bool
     ensures { λ r. ⌜ r ≡ isTable (now (table .entry)) (judge kind counts (now (blob .entry))) ⌝ }
 {
-    if table.len() <= 96 {
-        let mut few = [0u32; 96];
+    if table.len() <= 48 {
+        let mut few = [0u32; 48];
         return has_table_in(&mut few, kind, counts, blob, table);
     }
     if table.len() <= 384 {

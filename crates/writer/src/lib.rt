@@ -43,8 +43,8 @@ pub fn write(kind: u32, counts: Counts, table: &[u32], out: &mut [u8]) -> Answer
 fn write_known(kind: u32, counts: Counts, table: &[u32], out: &mut [u8]) -> Answer
     ensures { λ r. ⌜ (r ≡ answerOf (confirmed kind counts (now (table .entry)) (length (now (out .entry))) (emitted (now (table .entry))))) × (now (out .exit) ≡ outputOf (confirmed kind counts (now (table .entry)) (length (now (out .entry))) (emitted (now (table .entry)))) (now (out .entry))) ⌝ }
 {
-    if table.len() <= 96 {
-        let mut few = [0u8; 128];
+    if table.len() <= 48 {
+        let mut few = [0u8; 48];
         match emission::all_at(&mut few, MAX_DEPTH, table, 1, 0, 0) {
             Emit::Next { at, node } => return copy_confirmed(kind, counts, &few[..at], table, out),
             Emit::Stop => {}
