@@ -11,10 +11,12 @@ use lib.Dec.{leb}
 use borrow.Author.Tests.{leb-true, leb-false, le-leb, lt-leb}
 use Rattle.number.specs.Number.{encode, putAt}
 use Rattle.number.proofs.Encoding.{encode-1, put-fits}
-use Rattle.grammar.specs.Emit.{Emitted, torn, wrote, andThen, spell, times}
-use Rattle.emission.specs.Emission.{spelled, Spelt, put, cut, followed, resultOf, leavesOf, Emits}
+use Rattle.grammar.specs.Emit.{Emitted, torn, wrote, andThen, spell, times, emit}
+use Rattle.emission.specs.Emission.{spelled, Spelt, put, cut, followed, resultOf, leavesOf, Emits, Parted}
 use Rattle.emission.specs.declared.Emit.{Emit}
 use Rattle.emission.specs.declared.Emit.the-variants.{Next, Stop}
+use Rattle.emission.specs.declared.Part.{Part}
+use Rattle.emission.specs.declared.Part.the-variants as Part
 
 -- an emission does not both stop and go on
 pub clash : {X : Type 0} {e m : ℕ} → Stop ≡ Next e m → X
@@ -102,6 +104,10 @@ emits-is e q at r o o₁ x h = rw x h
 -- the result as a match found it
 pub found : (e : Emitted) (at : ℕ) (w v : Emit) (o o₁ : List ℕ) → w ≡ v → Emits e at w o o₁ → Emits e at v o o₁
 found e at w v o o₁ x h = subst (λ (y : Emit). Emits e at y o o₁) x h
+
+-- the result and the buffer by other names
+pub emits-as : (q : Emitted) (at : ℕ) (r r′ : Emit) (o₀ o₁ o₂ : List ℕ) → o₂ ≡ o₁ → r′ ≡ r → Emits q at r o₀ o₁ → Emits q at r′ o₀ o₂
+emits-as q at r r′ o₀ o₁ o₂ e g h = rw (e, g) h
 
 -- past the end of the buffer nothing is emitted
 pub emits-past : (q : Emitted) (at : ℕ) (o : List ℕ) → length o < at → Emits q at Stop o o
@@ -226,3 +232,23 @@ loop-end item zero e m o h i =
     let z : e + 0 ≡ e = omega arith in
     record { result = sym (ap (λ (j : ℕ). Next j m) z) ∙ result-fits [] m e (length o) (omega arith); left = λ _. refl; kept = refl }
 loop-end item (suc k) e m o h i = absurd (omega arith)
+
+-- the last of a loop is that one
+pub last-one : (item : ℕ → Emitted) (left m e : ℕ) (r : Emit) (o o₁ : List ℕ) → left ≡ 1 → Emits (item m) e r o o₁ → Emits (times item left m) e r o o₁
+unfolding times
+last-one item left m e r o o₁ h x = rw h (emits-is _ _ e r o o₁ (go (item m)) x)
+  where
+    go : (q : Emitted) → andThen q (λ bs n₁. andThen (wrote [] n₁) (λ cs n₂. wrote (bs ++ cs) n₂)) ≡ q
+    go torn = refl
+    go (wrote bs n) = ap (λ (l : List ℕ). wrote l n) (append-nil bs)
+
+-- a record's part as a match found it
+module _ (d : ℕ) (t : List ℕ) (n at : ℕ) (y : Part) (o o₁ : List ℕ) where
+  pub part-goes : (f k : ℕ) → Parted d t n at y o o₁ → y ≡ Part.Goes f k → Parted d t n at (Part.Goes f k) o o₁
+  part-goes f k x g = subst (λ (z : Part). Parted d t n at z o o₁) g x
+
+  pub part-ends : (e m : ℕ) → Parted d t n at y o o₁ → y ≡ Part.Ends e m → Emits (emit d t n) at (Next e m) o o₁
+  part-ends e m x g = subst (λ (z : Part). Parted d t n at z o o₁) g x
+
+  pub part-stop : Parted d t n at y o o₁ → y ≡ Part.Stop → Emits (emit d t n) at Stop o o₁
+  part-stop x g = subst (λ (z : Part). Parted d t n at z o o₁) g x

@@ -7,10 +7,12 @@ use mathlib.Core.List.{List, [], _∷_, _++_}
 use lib.ListN.{length}
 use lib.Seq.{sets}
 use lib.Dec.{leb, eqb}
-use Rattle.grammar.specs.Emit.{Layout, plain, valued, array, instance, callable, field, locals, bound, Emitted, torn, wrote, andThen, spell}
+use Rattle.grammar.specs.Emit.{Layout, plain, valued, array, instance, callable, field, locals, bound, Emitted, torn, wrote, andThen, spell, times, emit}
 use Rattle.grammar.specs.declared.Node.{Node}
 use Rattle.emission.specs.declared.Emit.{Emit}
 use Rattle.emission.specs.declared.Emit.the-variants.{Next, Stop}
+use Rattle.emission.specs.declared.Part.{Part}
+use Rattle.emission.specs.declared.Part.the-variants as Part
 
 -- the numbers of a record's first part
 unfoldable pub frontOf : Layout → Node → List ℕ
@@ -51,3 +53,10 @@ pub record Emits (e : Emitted) (at : ℕ) (r : Emit) (before after : List ℕ) :
   pub result : r ≡ resultOf e at (length before)
   pub left : leavesOf e at before after
   pub kept : length after ≡ length before
+
+-- a record's subtree up to its end; or up to its children, whatever ends which ends the subtree
+abbrev pub Parted : (d : ℕ) → List ℕ → (n at : ℕ) → Part → (before after : List ℕ) → Type 0
+Parted d t n at (Part.Goes f k) before after =
+    (0 < d) × (n < length t) × (f ≤ length after) × ((r : Emit) (end : List ℕ) → Emits (times (emit (d - 1) t) k (n + 1)) f r after end → Emits (emit d t n) at r before end)
+Parted d t n at (Part.Ends e m) before after = Emits (emit d t n) at (Next e m) before after
+Parted d t n at Part.Stop before after = Emits (emit d t n) at Stop before after

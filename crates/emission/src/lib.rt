@@ -6,7 +6,7 @@ ghost use Prim.Native.Nat.{_+_, _-_, _*_, _≤_, _<_};
 ghost use lib.ListN.{length};
 ghost use Rattle.grammar.specs.Table.{recordAt};
 ghost use Rattle.grammar.specs.Emit.{array, callable, layoutOf, partsOf, times, parts, emit};
-ghost use Rattle.emission.specs.Emission.{frontOf, Spelt, Emits};
+ghost use Rattle.emission.specs.Emission.{frontOf, Spelt, Emits, Parted};
 use grammar::Node;
 
 const ARRAY: u32 = 0x14;
@@ -14,6 +14,14 @@ const ARRAY: u32 = 0x14;
 // Where the next byte goes and which record is next; or the table has no blob that fits.
 pub enum Emit {
     Next { at: usize, node: usize },
+    Stop,
+}
+
+// What is emitted of a record: its subtree, with where the next byte goes and which record is next; or its numbers, with so many children to come;
+// or the table has no blob that fits.
+enum Part {
+    Goes { at: usize, children: u32 },
+    Ends { at: usize, node: usize },
     Stop,
 }
 
@@ -111,29 +119,34 @@ fn front_to(out: &mut [u8], node: Node, at: usize) -> usize
     }
 }
 
-// The subtree whose root is record n, from the offset `at` on, with d levels left.
-fn emit_at(out: &mut [u8], d: usize, table: &[u32], at: usize, n: usize) -> Emit
+// The subtree whose root is record n, from the offset `at` on, with d levels left: up to its end where the record is an ARRAY or has no children,
+// and else the numbers before its children.
+fn part_at(out: &mut [u8], d: usize, table: &[u32], at: usize, n: usize) -> Part
     requires { ⌜ n ≤ length (now table) ⌝ }
-    ensures { λ r. ⌜ Emits (emit d (now (table .entry)) n) at r (now (out .entry)) (now (out .exit)) ⌝ }
+    ensures { λ r. ⌜ Parted d (now (table .entry)) n at r (now (out .entry)) (now (out .exit)) ⌝ }
 {
     if d == 0 {
-        return Emit::Stop;
+        return Part::Stop;
     }
     if table.len() < 6 * n + 6 {
-        return Emit::Stop;
+        return Part::Stop;
     }
     let node = record_at(table, n);
     if node.kind == ARRAY {
-        return array_at(out, d - 1, &*table, node, at, n + 1);
+        return match array_at(out, d - 1, &*table, node, at, n + 1) {
+            Emit::Next { at: e, node: m } => Part::Ends { at: e, node: m },
+            Emit::Stop => Part::Stop,
+        };
     }
     let e = front_to(out, node, at);
     if out.len() < e {
-        return Emit::Stop;
+        return Part::Stop;
     }
-    if node.children == 0 {
-        return Emit::Next { at: e, node: n + 1 };
+    let children = node.children;
+    if children == 0 {
+        return Part::Ends { at: e, node: n + 1 };
     }
-    all_at(out, d - 1, &*table, node.children, e, n + 1)
+    Part::Goes { at: e, children }
 }
 
 // An ARRAY: its type, then Rank, NumSizes and the sizes, then NumLoBounds and the low bounds.
@@ -158,7 +171,7 @@ fn array_at(out: &mut [u8], d: usize, table: &[u32], node: Node, at: usize, n: u
     }
 }
 
-// `count` subtrees one after the other; none from an offset past the end on.
+// `count` subtrees one after the other; none from an offset past the end on. The children of the last of them are the next of the loop, one level down.
 pub fn all_at(out: &mut [u8], d: usize, table: &[u32], count: u32, at: usize, n: usize) -> Emit
     requires { ⌜ n ≤ length (now table) ⌝ }
     ensures { λ r. ⌜ Emits (times (emit d (now (table .entry))) count n) at r (now (out .entry)) (now (out .exit)) ⌝ }
@@ -169,8 +182,23 @@ pub fn all_at(out: &mut [u8], d: usize, table: &[u32], count: u32, at: usize, n:
     let mut left = count;
     let mut e = at;
     let mut m = n;
+    let mut deep = d;
     while 0 < left {
-        match emit_at(out, d, &*table, e, m) {
+        let w = match part_at(out, deep, &*table, e, m) {
+            Part::Goes { at: f, children } => {
+                if left == 1 {
+                    e = f;
+                    m += 1;
+                    left = children;
+                    deep -= 1;
+                    continue;
+                }
+                all_at(out, deep - 1, &*table, children, f, m + 1)
+            }
+            Part::Ends { at: f, node } => Emit::Next { at: f, node },
+            Part::Stop => Emit::Stop,
+        };
+        match w {
             Emit::Next { at: e2, node: m2 } => {
                 e = e2;
                 m = m2;
