@@ -70,14 +70,14 @@ fn number_to(out: &mut [u8], v: u32, at: usize) -> usize
     if v < 0x80 {
         return byte_to(out, v, at);
     }
-    let len = number::number_len(v);
+    let len = encoding::number_len(v);
     if out.len() < len {
         return out.len() + 1;
     }
     if out.len() - len < at {
         return out.len() + 1;
     }
-    number::put_number(out, at, v);
+    encoding::put_number(out, at, v);
     at + len
 }
 

@@ -26,7 +26,7 @@ fn show_read(s: &[u8]) {
 // The encoding of `v`, in five bytes that were FF before.
 fn show_written(v: u32) {
     let mut out = [0xFFu8; 5];
-    let n = number::put_number(&mut out, 0, v);
+    let n = encoding::put_number(&mut out, 0, v);
     print::hex(v as u64);
     print::text(b" has ");
     print::decimal(n as u64);

@@ -1,9 +1,9 @@
--- `number::number_len` meets its contract, by the cases of `encode`. Assumes nothing.
+-- `encoding::number_len` meets its contract, by the cases of `encode`. Assumes nothing.
 use mathlib.Core.Path.{sym, ap}
 use lib.ListN.{length}
 use Rattle.number.proofs.Encoding.{encode-1, encode-2, encode-4, encode-none}
-use Rattle.number.proofs.number_len.Statement.{statement}
-use Rattle.number.proofs.number_len.Tie as tie
+use Rattle.encoding.proofs.number_len.Statement.{statement}
+use Rattle.encoding.proofs.number_len.Tie as tie
 
 pub number-len-spec : {M : Type 1} → statement M
 number-len-spec =

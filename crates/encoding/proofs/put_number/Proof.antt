@@ -1,11 +1,11 @@
--- `number::put_number` meets its contract. Assumes nothing.
+-- `encoding::put_number` meets its contract. Assumes nothing.
 use mathlib.Core.Path.{ap}
 use native.Mathlib.Omega.{arith}
 use lib.ListN.{length, length-set}
 use Rattle.number.proofs.Encoding.{encode-1, encode-2, encode-4, put-short, put-0, put-1, put-2, put-4}
 use borrow.Author.Needs.{needs}
-use Rattle.number.proofs.put_number.Statement.{statement}
-use Rattle.number.proofs.put_number.Tie as tie
+use Rattle.encoding.proofs.put_number.Statement.{statement}
+use Rattle.encoding.proofs.put_number.Tie as tie
 
 returns-3 : tie.Need-returns-3
 returns-3 c =
