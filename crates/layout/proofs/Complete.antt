@@ -18,7 +18,7 @@ use Rattle.number.specs.declared.checked.Checked.the-variants.{Good}
 use Rattle.number.proofs.Laws.{encoded, onward}
 use Rattle.number.proofs.Stands.{Stands, split, stands-length, whole}
 use Rattle.grammar.specs.Limits.{maxRows}
-use Rattle.register.specs.Size.{maxSize}
+use Rattle.answer.specs.Size.{maxSize}
 use Rattle.layout.specs.Layout.{maxSheet, countOf, blobOf, blobAt, itemOf, follow, items, noted, noLayout, sections, layoutOf, valueOf, nextOf, defsOf, refsOf, more, blobsFrom, acksFrom}
 use Rattle.layout.specs.Spelling.{blobsSpelled, acksSpelled, Encodable, lengths, Sheet}
 use Rattle.layout.specs.declared.Layout.{Layout}

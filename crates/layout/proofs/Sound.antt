@@ -18,7 +18,7 @@ use Rattle.number.proofs.Laws.{decoded, onward}
 use Rattle.number.proofs.Checks.{checked-good, count-good}
 use Rattle.number.proofs.Stands.{Stands, nothing, byte, join, all-of}
 use Rattle.grammar.specs.Limits.{maxRows}
-use Rattle.register.specs.Size.{maxSize}
+use Rattle.answer.specs.Size.{maxSize}
 use Rattle.layout.specs.Layout.{maxSheet, countOf, blobOf, blobAt, itemOf, follow, items, noted, noLayout, sections, layoutOf, valueOf, nextOf, defsOf, refsOf, more, blobsFrom, acksFrom}
 use Rattle.layout.specs.Spelling.{blobsSpelled, acksSpelled, Encodable, lengths, Sheet}
 use Rattle.layout.specs.declared.Layout.{Layout}

@@ -3,9 +3,9 @@ ghost use mathlib.Core.Path.{_≡_};
 ghost use Prim.Native.Nat.{_≤_};
 ghost use lib.ListN.{length};
 ghost use Rattle.layout.specs.Layout.{countOf, blobAt, itemOf, noted, noLayout, sections, layoutOf};
+use answer::SIZE;
 use grammar::MAX_ROWS;
 use number::checked::Checked;
-use register::SIZE;
 
 const MAX_SHEET: usize = 65536;
 

@@ -7,7 +7,7 @@ use mathlib.Core.Bool.{Bool, true, false, cond}
 use lib.Dec.{eqb}
 use borrow.Author.Tests.{eqb-true, eqb-false}
 use Rattle.register.specs.declared.Register.{Register}
-use Rattle.register.specs.declared.Asked.{Asked}
+use Rattle.answer.specs.declared.Asked.{Asked}
 use Rattle.register.specs.Calls.{askOf}
 use Rattle.register.specs.Model.{Model, Call, filing, acknowledging, asking, report, standingM, gateM, answerM}
 use Rattle.register.specs.Demand.{reportOf, answerR, butMark, afterR, afterM, Demand3}

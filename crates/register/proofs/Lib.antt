@@ -1,4 +1,3 @@
-pub mod Gates
 pub mod RowStandings
 pub mod Simulation
 pub mod FreshChecks

@@ -7,13 +7,13 @@ use mathlib.Core.Bool.{Bool, true, false, cond, _||_}
 use lib.ListN.{getD}
 use lib.Dec.{ltb, eqb}
 use Rattle.grammar.specs.Limits.{maxRows}
-use Rattle.register.specs.Size.{maxSize}
+use Rattle.answer.specs.Size.{maxSize}
 use Rattle.register.specs.declared.Register.{Register}
 use Rattle.register.specs.declared.Changed.{Changed}
-use Rattle.register.specs.declared.Asked.{Asked}
+use Rattle.answer.specs.declared.Asked.{Asked}
 use Rattle.filing.specs.Outcome.{judged}
-use Rattle.register.specs.Model.{ackCode}
-use Rattle.register.specs.Calls.{blank, changed, openOf, gate, filed, fileOf, standingOf, marked, ackAt, ackOf, told, askAt, askOf}
+use Rattle.answer.specs.Answers.{gate, ackCode, told}
+use Rattle.register.specs.Calls.{blank, changed, openOf, filed, fileOf, standingOf, marked, ackAt, ackOf, askAt, askOf}
 
 -- "opening a register: 13, 19"
 pub data Opening : Changed → Type 0 where

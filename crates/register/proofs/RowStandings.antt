@@ -11,7 +11,7 @@ use Rattle.bits.specs.Bits.{at}
 use Rattle.standing.specs.Standing.{cleared, filled, losesIn, standingIn}
 use Rattle.standing.proofs.Standings.{standing-in, loses-in, filled-cong, getD-filled}
 use Rattle.filing.specs.Size.{words}
-use Rattle.register.specs.Size.{maxSize}
+use Rattle.answer.specs.Size.{maxSize}
 use Rattle.register.specs.Calls.{marksAfter, standingOf, standingsOf}
 use Rattle.register.specs.declared.Register.{Register}
 

@@ -25,12 +25,13 @@ use Rattle.grammar.proofs.Bounds.{ends-judge}
 use Rattle.register.specs.declared.Register.{Register}
 use Rattle.register.specs.declared.Changed.{Changed}
 use Rattle.filing.specs.Size.{words}
-use Rattle.register.specs.Size.{maxSize}
+use Rattle.answer.specs.Size.{maxSize}
+use Rattle.answer.specs.Answers.{gate, ackCode}
 use Rattle.filing.specs.Outcome.{judged, stateOf, codeOf, placeOf, namesRow}
-use Rattle.register.specs.Calls.{blank, changed, openOf, gate, filed, fileOf, marksAfter, marked, ackAt, ackOf, askAt, askOf, standingOf, refers}
-use Rattle.register.specs.Model.{Model, Call, filing, acknowledging, asking, number, report, check, outcome, stateM, refersM, standingM, touched, gateM, filedM, markedM, ackCode, ackM, answerM, nextM, answersM, endM, emptyM, openingM, openedM}
+use Rattle.register.specs.Calls.{blank, changed, openOf, filed, fileOf, marksAfter, marked, ackAt, ackOf, askAt, askOf, standingOf, refers}
+use Rattle.register.specs.Model.{Model, Call, filing, acknowledging, asking, number, report, check, outcome, stateM, refersM, standingM, touched, gateM, filedM, markedM, ackM, answerM, nextM, answersM, endM, emptyM, openingM, openedM}
 use Rattle.register.specs.Demand.{reportOf, answerR, nextR, answersR, endR}
-use Rattle.register.proofs.Gates.{gate-ok}
+use Rattle.answer.proofs.Gates.{gate-ok}
 use Rattle.filing.proofs.Collects.{length-named, at-named, at-named-other}
 
 -- ---- the relation

@@ -11,14 +11,14 @@ use Rattle.bits.specs.Bits.{at}
 use Rattle.standing.specs.Standing.{standing, cleared, filled}
 use Rattle.grammar.specs.Limits.{maxRows}
 use Rattle.grammar.specs.Judge.{Out}
-use Rattle.register.specs.Size.{maxSize}
+use Rattle.answer.specs.Size.{maxSize}
 use Rattle.filing.specs.Size.{words}
 use Rattle.filing.specs.Outcome.{stateOf, codeOf, placeOf}
 use Rattle.filing.specs.Named.{namedBy}
-use Rattle.register.specs.Model.{ackCode}
+use Rattle.answer.specs.Answers.{gate, ackCode, told, askedOf}
 use Rattle.register.specs.declared.Register.{Register}
 use Rattle.register.specs.declared.Changed.{Changed}
-use Rattle.register.specs.declared.Asked.{Asked}
+use Rattle.answer.specs.declared.Asked.{Asked}
 -- passed on, since `fileOf` goes by it
 pub use Rattle.filing.specs.Outcome.{judged}
 
@@ -43,10 +43,6 @@ unfoldable pub openOf : (defs refs rows : ℕ) → Changed
 openOf defs refs rows =
     cond (ltb maxRows defs || ltb maxRows refs) (changed 13 (blank 0 0 0))
     (cond (eqb rows 0 || ltb maxSize rows) (changed 19 (blank 0 0 0)) (changed 0 (blank defs refs rows)))
-
--- "Filing, asking and acknowledging first answer 19 for a register whose row number is above 64"; then 16 "row not in 1..rows"; else 0
-unfoldable pub gate : (rows row : ℕ) → ℕ
-gate rows row = cond (ltb maxSize rows) 19 (cond (eqb row 0 || ltb rows row) 16 0)
 
 -- row i refers to row j, by the sets kept
 abbrev pub refers : Register → Graph
@@ -103,13 +99,6 @@ ackAt g i =
 -- "Acknowledge: 16, 17, 18"
 unfoldable pub ackOf : Register → ℕ → Changed
 ackOf g row = cond (eqb (gate (g .rows) row) 0) (ackAt g (row - 1)) (changed (gate (g .rows) row) g)
-
-abbrev pub told : (code standing finding place mark : ℕ) → Asked
-told code standing finding place mark = record { code = code; standing = standing; finding = finding; place = place; mark = mark }
-
--- "finding and place 0 unless BAD", by what is kept of a row
-abbrev pub askedOf : (standing state code place mark : ℕ) → Asked
-askedOf standing state code place mark = told 0 standing (cond (eqb state 1) code 0) (cond (eqb state 1) place 0) mark
 
 unfoldable pub askAt : Register → ℕ → Asked
 askAt g i = askedOf (standingOf g i) (getD (g .states) i 0) (getD (g .codes) i 0) (getD (g .places) i 0) (getD (g .marks) i 0)

@@ -6,7 +6,7 @@ use mathlib.Core.List.{List, [], _∷_}
 use mathlib.Core.Logic.{_↔_}
 use Rattle.reach.specs.Reach.{Reach}
 use Rattle.register.specs.declared.Register.{Register}
-use Rattle.register.specs.declared.Asked.{Asked}
+use Rattle.answer.specs.declared.Asked.{Asked}
 use Rattle.register.specs.Calls.{openOf, fileOf, ackOf, askOf}
 use Rattle.register.specs.Model.{Model, Call, filing, acknowledging, asking, Answer, number, report, refersM, answerM, answersM, endM, openingM, openedM}
 use Rattle.register.specs.History.{Stands, Marked}

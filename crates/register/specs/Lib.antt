@@ -1,4 +1,3 @@
-pub mod Size
 pub mod Model
 pub mod Calls
 pub mod History

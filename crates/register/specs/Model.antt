@@ -9,7 +9,8 @@ use Rattle.reach.specs.Reach.{Graph, thru}
 use Rattle.standing.specs.Standing.{standing}
 use Rattle.grammar.specs.Limits.{maxRows}
 use Rattle.grammar.specs.Judge.{Out}
-use Rattle.register.specs.Size.{maxSize}
+use Rattle.answer.specs.Size.{maxSize}
+use Rattle.answer.specs.Answers.{ackCode}
 use Rattle.filing.specs.Outcome.{judged, stateOf, codeOf, placeOf, namesRow}
 
 -- "It has, for each row, the last blob filed or none, and a mark or none": 0 is no mark
@@ -71,9 +72,6 @@ filedM b i blob = record {
 }
 
 -- "17 if the row stands EMPTY or CLEAN; 18 if it has a mark", else 0
-unfoldable pub ackCode : (standing mark : ℕ) → ℕ
-ackCode standing mark = cond (eqb standing 0 || eqb standing 4) 17 (cond (eqb mark 0) 0 18)
-
 unfoldable pub ackM : Model → ℕ → ℕ
 ackM b i = ackCode (standingM b i) (b .mark i)
 

@@ -5,16 +5,17 @@ ghost use Rattle.reach.specs.Reach.{thru};
 ghost use Rattle.bits.specs.Bits.{at};
 ghost use Rattle.filing.specs.Size.{words};
 ghost use Rattle.filing.specs.Outcome.{judged};
-ghost use Rattle.register.specs.Size.{maxSize};
-ghost use Rattle.register.specs.Model.{ackCode};
-ghost use Rattle.register.specs.Calls.{blank, openOf, gate, filed, fileOf, marksAfter, ackAt, ackOf, askedOf, askAt, askOf, standingOf, standingsOf};
+ghost use Rattle.answer.specs.Size.{maxSize};
+ghost use Rattle.register.specs.Calls.{blank, openOf, filed, fileOf, marksAfter, ackAt, ackOf, askAt, askOf, standingOf, standingsOf};
+pub use answer::Asked;
+pub use answer::SIZE;
+use answer::ack_code;
+use answer::admit;
+use answer::asked_of;
 use filing::WORDS;
 use filing::judge_row;
 use grammar::MAX_ROWS;
 use number::token::Counts;
-
-// The most rows.
-pub const SIZE: usize = 64;
 
 pub struct Register {
     // the row counts of TypeDef and TypeRef
@@ -37,14 +38,6 @@ pub struct Register {
 pub struct Changed {
     pub code: u32,
     pub register: Register,
-}
-
-pub struct Asked {
-    pub code: u32,
-    pub standing: u32,
-    pub finding: u32,
-    pub place: usize,
-    pub mark: u32,
 }
 
 fn blank_register(defs: u32, refs: u32, rows: usize) -> Register
@@ -87,22 +80,6 @@ pub fn open(defs: u32, refs: u32, rows: usize) -> Changed
     }
     let register = blank_register(defs, refs, rows);
     Changed { code: 0, register }
-}
-
-// 19, 16 or 0: the refusals that come first on any call but opening.
-pub fn admit(rows: usize, row: usize) -> u32
-    ensures { λ r. ⌜ r ≡ gate rows row ⌝ }
-{
-    if SIZE < rows {
-        return 19;
-    }
-    if row == 0 {
-        return 16;
-    }
-    if rows < row {
-        return 16;
-    }
-    0
 }
 
 // The table of what each of the n rows reaches.
@@ -192,22 +169,6 @@ pub fn file(g: Register, row: usize, blob: &[u8]) -> Changed
     Changed { code: 0, register }
 }
 
-// 17, 18 or 0: what acknowledging a row of this standing and mark answers.
-pub fn ack_code(standing: u32, mark: u32) -> u32
-    ensures { λ r. ⌜ r ≡ ackCode standing mark ⌝ }
-{
-    if standing == 0 {
-        return 17;
-    }
-    if standing == 4 {
-        return 17;
-    }
-    if mark == 0 {
-        return 0;
-    }
-    18
-}
-
 fn acknowledge_at(g: Register, i: usize) -> Changed
     requires { ⌜ (g .rows ≤ maxSize) × (i < g .rows) ⌝ }
     ensures { λ r. ⌜ r ≡ ackAt g i ⌝ }
@@ -239,28 +200,6 @@ pub fn acknowledge(g: Register, row: usize) -> Changed
         };
     }
     acknowledge_at(g, row - 1)
-}
-
-// What asking gives of a row, by what is kept of it: finding and place are 0 unless its blob was refused.
-pub fn asked_of(standing: u32, state: u32, finding: u32, place: usize, mark: u32) -> Asked
-    ensures { λ r. ⌜ r ≡ askedOf standing state finding place mark ⌝ }
-{
-    if state == 1 {
-        return Asked {
-            code: 0,
-            standing,
-            finding,
-            place,
-            mark,
-        };
-    }
-    Asked {
-        code: 0,
-        standing,
-        finding: 0,
-        place: 0,
-        mark,
-    }
 }
 
 fn ask_at(g: Register, i: usize) -> Asked

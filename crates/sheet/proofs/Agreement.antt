@@ -10,11 +10,11 @@ use lib.ListN.{getD, set}
 use lib.Dec.{ltb, eqb}
 use borrow.Author.Tests.{le-ltb, ne-eqb, eqb-true, ltb-false}
 use Rattle.grammar.specs.Limits.{maxRows}
-use Rattle.register.specs.Size.{maxSize}
-use Rattle.register.specs.Model.{ackCode}
-use Rattle.register.specs.Calls.{blank, changed, openOf, gate, judged, filed, fileOf, standingOf, standingsOf, marked, ackAt, ackOf, askAt, askOf}
+use Rattle.answer.specs.Size.{maxSize}
+use Rattle.answer.specs.Answers.{gate, ackCode}
+use Rattle.register.specs.Calls.{blank, changed, openOf, judged, filed, fileOf, standingOf, standingsOf, marked, ackAt, ackOf, askAt, askOf}
 use Rattle.register.specs.declared.Register.{Register}
-use Rattle.register.proofs.Gates.{gate-ok}
+use Rattle.answer.proofs.Gates.{gate-ok}
 use Rattle.register.proofs.RowStandings.{standings-at}
 use Rattle.layout.specs.Layout.{blobsFrom, defsOf, refsOf}
 use Rattle.sheet.specs.Lines.{header}

@@ -9,7 +9,7 @@ use lib.Seq.{drop-append-seam}
 use borrow.Author.Tests.{le-ltb, ne-eqb}
 use Rattle.number.specs.Number.{Bytes}
 use Rattle.grammar.specs.Limits.{maxRows}
-use Rattle.register.specs.Size.{maxSize}
+use Rattle.answer.specs.Size.{maxSize}
 use Rattle.register.specs.declared.Register.{Register}
 use Rattle.register.specs.Calls.{openOf, fileOf, ackOf, askOf}
 use Rattle.register.specs.Model.{Model, Call, asking, answerM, answersM, nextM, endM, openedM}

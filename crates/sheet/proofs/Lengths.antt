@@ -10,9 +10,9 @@ use lib.Dec.{ltb, eqb}
 use Rattle.number.specs.Checked.{checkedAt}
 use Rattle.number.specs.declared.checked.Checked.{Checked}
 use Rattle.number.specs.declared.checked.Checked.the-variants.{Good, Bad}
-use Rattle.register.specs.Size.{maxSize}
+use Rattle.answer.specs.Size.{maxSize}
 use Rattle.register.specs.declared.Register.{Register}
-use Rattle.register.specs.declared.Asked.{Asked}
+use Rattle.answer.specs.declared.Asked.{Asked}
 use Rattle.layout.specs.Layout.{more, acksFrom}
 use Rattle.sheet.specs.Lines.{numeral, decimal, field, newline, header, standingName, rowLine, ackLine, refusalLine}
 use Rattle.sheet.specs.Printing.{greatest}

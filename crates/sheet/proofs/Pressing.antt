@@ -8,11 +8,10 @@ use lib.ListN.{length, getD, set, length-set}
 use lib.Dec.{eqb}
 use mathlib.Core.Bool.{Bool, true, false, cond}
 use borrow.Author.Tests.{eq-eqb, ne-eqb, eqb-true}
-use Rattle.register.specs.Calls.{gate}
-use Rattle.register.specs.Model.{ackCode}
-use Rattle.register.proofs.Gates.{Admitted, gate-ok}
+use Rattle.answer.specs.Answers.{gate, ackCode}
+use Rattle.answer.proofs.Gates.{Admitted, gate-ok}
 use Rattle.register.specs.declared.Register.{Register}
-use Rattle.register.specs.declared.Asked.{Asked}
+use Rattle.answer.specs.declared.Asked.{Asked}
 use Rattle.sheet.specs.Lines.{rowLine}
 use Rattle.sheet.specs.Printing.{Prints}
 use Rattle.sheet.specs.Presses.{pressCode, pressMarks, pressesMarks, askedBy, rowsBy}

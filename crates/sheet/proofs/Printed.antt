@@ -5,7 +5,7 @@ use mathlib.Core.Path.{_≡_, sym, ap, _∙_, subst}
 use mathlib.Core.List.{List, _++_}
 use lib.ListN.{length}
 use Rattle.reader.specs.declared.Answer.{Answer}
-use Rattle.register.specs.Size.{maxSize}
+use Rattle.answer.specs.Size.{maxSize}
 use Rattle.register.specs.Calls.{standingsOf}
 use Rattle.register.specs.declared.Register.{Register}
 use Rattle.layout.specs.Layout.{layoutOf, acksFrom}

@@ -3,7 +3,7 @@
 use Prim.Native.Nat.{ℕ, zero, suc, _+_}
 use mathlib.Core.List.{List, [], _∷_, _++_}
 use lib.ListN.{length}
-use Rattle.register.specs.Calls.{told}
+use Rattle.answer.specs.Answers.{told}
 use Rattle.register.specs.Model.{Model, Call, filing, acknowledging, asking, Answer, number, report, answerM, answersM, endM, openedM}
 use Rattle.sheet.specs.Lines.{header, rowLine, ackLine}
 

@@ -4,10 +4,9 @@ use mathlib.Core.List.{List, [], _∷_, _++_}
 use mathlib.Core.Bool.{cond}
 use lib.ListN.{getD, set}
 use lib.Dec.{eqb}
-use Rattle.register.specs.Calls.{gate, askedOf}
-use Rattle.register.specs.Model.{ackCode}
+use Rattle.answer.specs.Answers.{gate, ackCode, askedOf}
 use Rattle.register.specs.declared.Register.{Register}
-use Rattle.register.specs.declared.Asked.{Asked}
+use Rattle.answer.specs.declared.Asked.{Asked}
 use Rattle.sheet.specs.Lines.{header, rowLine, ackLine}
 
 module _ (standings : List ℕ) (rows : ℕ) where

@@ -3,16 +3,16 @@ ghost use mathlib.Core.Path.{_≡_};
 ghost use Prim.Native.Nat.{_≤_, _<_};
 ghost use mathlib.Core.List.{_++_};
 ghost use lib.ListN.{length};
-ghost use Rattle.register.specs.Size.{maxSize};
+ghost use Rattle.answer.specs.Size.{maxSize};
 ghost use Rattle.layout.specs.Layout.{acksFrom};
 ghost use Rattle.sheet.specs.Lines.{header, refusalLine};
 ghost use Rattle.sheet.specs.Text.{acceptedText, textOf, answered, outputOf, Runs};
 ghost use Rattle.sheet.specs.Printing.{further, laid, Prints};
 ghost use Rattle.sheet.specs.Presses.{askedBy, rowsBy, pressLines, pressesMarks, printedBy};
+use answer::Asked;
 use layout::Layout;
 use layout::Parsed;
 use reader::Answer;
-use register::Asked;
 use register::Register;
 
 mod filing;
@@ -24,7 +24,7 @@ fn asked_by(g: Register, standings: &[u32], marks: &[u32], i: usize) -> Asked
     requires { ⌜ (g .rows ≤ maxSize) × (i < g .rows) × (g .rows ≤ length (now standings)) × (g .rows ≤ length (now marks)) ⌝ }
     ensures { λ r. ⌜ r ≡ askedBy g (now (standings .entry)) (now (marks .entry)) i ⌝ }
 {
-    register::asked_of(standings[i], g.states[i], g.codes[i], g.places[i], marks[i])
+    answer::asked_of(standings[i], g.states[i], g.codes[i], g.places[i], marks[i])
 }
 
 // The lines of all rows.

@@ -2,7 +2,7 @@
 ghost use mathlib.Core.Path.{_≡_};
 ghost use Prim.Native.Nat.{_≤_};
 ghost use lib.ListN.{length};
-ghost use Rattle.register.specs.Size.{maxSize};
+ghost use Rattle.answer.specs.Size.{maxSize};
 ghost use Rattle.layout.specs.Layout.{acksFrom};
 ghost use Rattle.sheet.specs.Presses.{pressCode, pressMarks, pressLines, pressesMarks};
 ghost use Rattle.sheet.specs.Printing.{Prints};
@@ -15,12 +15,12 @@ fn press_code(standings: &[u32], marks: &[u32], rows: usize, row: u32) -> u32
     ensures { λ r. ⌜ r ≡ pressCode (now (standings .entry)) rows (now (marks .entry)) row ⌝ }
 {
     let n = row as usize;
-    let no = register::admit(rows, n);
+    let no = answer::admit(rows, n);
     if no != 0 {
         return no;
     }
     let i = n - 1;
-    register::ack_code(standings[i], marks[i])
+    answer::ack_code(standings[i], marks[i])
 }
 
 // Marks a row, or answers why not.

@@ -4,7 +4,7 @@ ghost use mathlib.Core.List.{[], _∷_};
 ghost use lib.ListN.{set};
 ghost use Rattle.sheet.specs.Printing.{next, Prints};
 ghost use Rattle.sheet.specs.Lines.{numeral, field, standingName, rowLine, ackLine, refusalLine};
-use register::Asked;
+use answer::Asked;
 
 const GREATEST: usize = 0xFFFFFFFFFFFFFFFF;
 

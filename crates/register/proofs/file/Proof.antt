@@ -4,7 +4,7 @@ use borrow.Author.Tests.{eq-eqb, ne-eqb}
 use mathlib.Core.Path.{sym, ap, _∙_}
 use native.Mathlib.Omega.{arith}
 use Rattle.register.specs.Calls.{fileOf, changed}
-use Rattle.register.proofs.Gates.{gate-ok}
+use Rattle.answer.proofs.Gates.{gate-ok}
 use Rattle.register.proofs.file.Statement.{statement}
 use Rattle.register.proofs.file.Tie as tie
 

@@ -5,7 +5,7 @@ use Prim.Native.Nat.{_*_}
 use mathlib.Core.Path.{_≡_}
 use lib.ListN.{length}
 use Rattle.filing.specs.Size.{words}
-use Rattle.register.specs.Size.{maxSize}
+use Rattle.answer.specs.Size.{maxSize}
 use Rattle.register.specs.Calls.{filed}
 use Rattle.register.proofs.file_at.Statement.{statement}
 use Rattle.register.proofs.file_at.Tie as tie

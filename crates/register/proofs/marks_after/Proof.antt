@@ -5,7 +5,7 @@ use mathlib.Core.Path.{_≡_}
 use native.Mathlib.Omega.{arith}
 use lib.ListN.{length}
 use Rattle.filing.specs.Size.{words}
-use Rattle.register.specs.Size.{maxSize}
+use Rattle.answer.specs.Size.{maxSize}
 use Rattle.register.proofs.RowStandings.{marks-left}
 use Rattle.register.proofs.marks_after.Statement.{statement}
 use Rattle.register.proofs.marks_after.Tie as tie

@@ -6,7 +6,7 @@ use Prim.Native.Nat.{_*_}
 use lib.ListN.{length}
 use Rattle.standing.proofs.Standings.{standing-in}
 use Rattle.filing.specs.Size.{words}
-use Rattle.register.specs.Size.{maxSize}
+use Rattle.answer.specs.Size.{maxSize}
 use Rattle.register.proofs.standing_at.Statement.{statement}
 use Rattle.register.proofs.standing_at.Tie as tie
 

@@ -5,7 +5,7 @@ use native.Mathlib.Omega.{arith}
 use Prim.Native.Nat.{_*_}
 use lib.ListN.{length}
 use Rattle.filing.specs.Size.{words}
-use Rattle.register.specs.Size.{maxSize}
+use Rattle.answer.specs.Size.{maxSize}
 use Rattle.register.proofs.RowStandings.{standings-all, standings-above}
 use Rattle.register.proofs.standings.Statement.{statement}
 use Rattle.register.proofs.standings.Tie as tie

@@ -4,7 +4,7 @@ use mathlib.Core.Path.{_≡_, ap, _∙_}
 use native.Mathlib.Omega.{arith}
 use Prim.Native.Nat.{_<_, _^_}
 use lib.ListN.{length}
-use Rattle.register.specs.Size.{maxSize}
+use Rattle.answer.specs.Size.{maxSize}
 use Rattle.sheet.proofs.Printed.{rows-fit, print-short, print-fits}
 use Rattle.sheet.proofs.Pressing.{length-presses}
 use Rattle.sheet.proofs.print.Statement.{statement}

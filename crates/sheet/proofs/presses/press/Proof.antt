@@ -1,7 +1,7 @@
 -- `sheet::presses::press` meets its contract. Assumes nothing.
 use borrow.Author.Needs.{needs}
 use native.Mathlib.Omega.{arith}
-use Rattle.register.proofs.Gates.{Admitted}
+use Rattle.answer.proofs.Gates.{Admitted}
 use Rattle.sheet.proofs.Pressing.{press-in, marks-kept, marks-set}
 use Rattle.sheet.proofs.presses.press.Statement.{statement}
 use Rattle.sheet.proofs.presses.press.Tie as tie

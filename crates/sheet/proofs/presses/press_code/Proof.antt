@@ -2,7 +2,7 @@
 use borrow.Author.Needs.{needs}
 use mathlib.Core.Path.{sym, _∙_}
 use native.Mathlib.Omega.{arith}
-use Rattle.register.proofs.Gates.{Admitted, gate-ok}
+use Rattle.answer.proofs.Gates.{Admitted, gate-ok}
 use Rattle.sheet.proofs.Pressing.{press-refused, press-admitted}
 use Rattle.sheet.proofs.presses.press_code.Statement.{statement}
 use Rattle.sheet.proofs.presses.press_code.Tie as tie

@@ -1,8 +1,8 @@
--- `register::ack_code` meets its contract. Assumes nothing.
+-- `answer::ack_code` meets its contract. Assumes nothing.
 use borrow.Author.Tests.{eq-eqb, ne-eqb}
-use Rattle.register.specs.Model.{ackCode}
-use Rattle.register.proofs.ack_code.Statement.{statement}
-use Rattle.register.proofs.ack_code.Tie as tie
+use Rattle.answer.specs.Answers.{ackCode}
+use Rattle.answer.proofs.ack_code.Statement.{statement}
+use Rattle.answer.proofs.ack_code.Tie as tie
 
 returns : tie.Need-returns
 unfolding ackCode

@@ -1,8 +1,8 @@
--- `register::admit` meets its contract. Assumes nothing.
+-- `answer::admit` meets its contract. Assumes nothing.
 use borrow.Author.Tests.{lt-ltb, le-ltb, eq-eqb, ne-eqb}
-use Rattle.register.specs.Calls.{gate}
-use Rattle.register.proofs.admit.Statement.{statement}
-use Rattle.register.proofs.admit.Tie as tie
+use Rattle.answer.specs.Answers.{gate}
+use Rattle.answer.proofs.admit.Statement.{statement}
+use Rattle.answer.proofs.admit.Tie as tie
 
 returns : tie.Need-returns
 unfolding gate

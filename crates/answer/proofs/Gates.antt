@@ -6,8 +6,8 @@ use mathlib.Core.Bool.{Bool, true, false, cond, _||_}
 use native.Mathlib.Omega.{arith}
 use lib.Dec.{ltb, eqb}
 use borrow.Author.Tests.{ltb-false, eqb-false}
-use Rattle.register.specs.Size.{maxSize}
-use Rattle.register.specs.Calls.{gate}
+use Rattle.answer.specs.Size.{maxSize}
+use Rattle.answer.specs.Answers.{gate}
 
 pub record Admitted (rows row : ℕ) : Type 0 where
   pub size : rows ≤ maxSize

@@ -1,0 +1,21 @@
+-- Document 01, "The register": what the calls answer, by the number of rows and by what is kept of a row.
+use Prim.Native.Nat.{ℕ}
+use mathlib.Core.Bool.{cond, _||_}
+use lib.Dec.{ltb, eqb}
+use Rattle.answer.specs.Size.{maxSize}
+use Rattle.answer.specs.declared.Asked.{Asked}
+
+-- "Filing, asking and acknowledging first answer 19 for a register whose row number is above 64"; then 16 "row not in 1..rows"; else 0
+unfoldable pub gate : (rows row : ℕ) → ℕ
+gate rows row = cond (ltb maxSize rows) 19 (cond (eqb row 0 || ltb rows row) 16 0)
+
+-- "17 if the row stands EMPTY or CLEAN; 18 if it has a mark", else 0
+unfoldable pub ackCode : (standing mark : ℕ) → ℕ
+ackCode standing mark = cond (eqb standing 0 || eqb standing 4) 17 (cond (eqb mark 0) 0 18)
+
+abbrev pub told : (code standing finding place mark : ℕ) → Asked
+told code standing finding place mark = record { code = code; standing = standing; finding = finding; place = place; mark = mark }
+
+-- "finding and place 0 unless BAD", by what is kept of a row
+abbrev pub askedOf : (standing state code place mark : ℕ) → Asked
+askedOf standing state code place mark = told 0 standing (cond (eqb state 1) code 0) (cond (eqb state 1) place 0) mark
