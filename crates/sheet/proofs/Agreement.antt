@@ -17,9 +17,11 @@ use Rattle.register.specs.declared.Register.{Register}
 use Rattle.answer.proofs.Gates.{gate-ok}
 use Rattle.register.proofs.RowStandings.{standings-at}
 use Rattle.layout.specs.Layout.{blobsFrom, defsOf, refsOf}
-use Rattle.sheet.specs.Lines.{header}
-use Rattle.sheet.specs.Text.{filedAll, ackedAll, rowLines, ackLines, registerOf, printed}
-use Rattle.sheet.specs.Presses.{pressCode, pressMarks, pressLines, pressesMarks, askedBy, rowsBy, printedBy}
+use Rattle.text.specs.Lines.{header}
+use Rattle.deposit.specs.Deposit.{filedAll, registerOf}
+use Rattle.sheet.specs.Text.{ackedAll, rowLines, ackLines, printed}
+use Rattle.presses.specs.Presses.{pressCode, pressMarks, pressLines, pressesMarks}
+use Rattle.sheet.specs.Rows.{askedBy, rowsBy, printedBy}
 use Rattle.layout.specs.declared.Layout.{Layout}
 
 -- ---- the number of rows

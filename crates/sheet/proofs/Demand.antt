@@ -19,8 +19,9 @@ use Rattle.layout.specs.Layout.{layoutOf, defsOf, refsOf, blobsFrom, acksFrom}
 use Rattle.layout.specs.declared.Layout.{Layout}
 use Rattle.layout.specs.declared.Parsed.the-variants.{Accepted}
 use Rattle.layout.proofs.Sound.{sheet-sound}
-use Rattle.sheet.specs.Lines.{header, ackLine}
-use Rattle.sheet.specs.Text.{filedAll, ackedAll, rowLines, ackLines, registerOf, printed, textFor, textOf}
+use Rattle.text.specs.Lines.{header, ackLine}
+use Rattle.deposit.specs.Deposit.{filedAll, registerOf}
+use Rattle.sheet.specs.Text.{ackedAll, rowLines, ackLines, printed, textFor, textOf}
 use Rattle.sheet.specs.Book.{filings, presses, reportLine, bookRows, pressed, bookPrint}
 use Rattle.sheet.proofs.Agreement.{filed-rows}
 

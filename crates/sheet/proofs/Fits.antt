@@ -10,11 +10,12 @@ use lib.ListN.{length, set, drop, length-append}
 use lib.Seq.{sets, sets-eq}
 use borrow.Author.Tests.{lt-ltb, le-ltb}
 use Rattle.register.specs.declared.Register.{Register}
-use Rattle.sheet.specs.Lines.{header}
-use Rattle.sheet.specs.Presses.{pressLines, pressesMarks, rowsBy, printedBy}
-use Rattle.sheet.specs.Printing.{greatest, next, further, laid}
+use Rattle.text.specs.Lines.{header}
+use Rattle.presses.specs.Presses.{pressLines, pressesMarks}
+use Rattle.sheet.specs.Rows.{rowsBy, printedBy}
+use Rattle.text.specs.Printing.{greatest, next, further, laid}
 use Rattle.sheet.specs.Text.{answered, outputOf, Runs}
-use Rattle.sheet.proofs.Laying.{further-is, further-add}
+use Rattle.text.proofs.Laying.{further-is, further-add}
 
 laid-sets : (text out : List ℕ) (to : ℕ) → to + length text ≤ greatest → laid out to text ≡ sets out to text
 unfolding laid next

@@ -14,9 +14,10 @@ use Rattle.answer.specs.Size.{maxSize}
 use Rattle.register.specs.declared.Register.{Register}
 use Rattle.answer.specs.declared.Asked.{Asked}
 use Rattle.layout.specs.Layout.{more, acksFrom}
-use Rattle.sheet.specs.Lines.{numeral, decimal, field, newline, header, standingName, rowLine, ackLine, refusalLine}
-use Rattle.sheet.specs.Printing.{greatest}
-use Rattle.sheet.specs.Presses.{pressCode, pressMarks, pressLines, pressesMarks, askedBy, rowsBy, printedBy}
+use Rattle.text.specs.Lines.{numeral, decimal, field, newline, header, standingName, rowLine, ackLine, refusalLine}
+use Rattle.text.specs.Printing.{greatest}
+use Rattle.presses.specs.Presses.{pressCode, pressMarks, pressLines, pressesMarks}
+use Rattle.sheet.specs.Rows.{askedBy, rowsBy, printedBy}
 
 longer : (x y : List ℕ) {a b : ℕ} → length x ≤ a → length y ≤ b → length (x ++ y) ≤ a + b
 longer x y h k = omega (arith, length-append x y, h, k)

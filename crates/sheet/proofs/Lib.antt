@@ -1,7 +1,4 @@
-pub mod Laying
-pub mod Numerals
-pub mod Listed
-pub mod Pressing
+pub mod Rows
 pub mod Fits
 pub mod Lengths
 pub mod Agreement

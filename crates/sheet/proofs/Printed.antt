@@ -9,10 +9,12 @@ use Rattle.answer.specs.Size.{maxSize}
 use Rattle.register.specs.Calls.{standingsOf}
 use Rattle.register.specs.declared.Register.{Register}
 use Rattle.layout.specs.Layout.{layoutOf, acksFrom}
-use Rattle.sheet.specs.Lines.{header}
-use Rattle.sheet.specs.Text.{registerOf, printed, acceptedText, textFor, textOf, Runs}
-use Rattle.sheet.specs.Printing.{greatest, further, laid}
-use Rattle.sheet.specs.Presses.{pressLines, pressesMarks, rowsBy, printedBy}
+use Rattle.text.specs.Lines.{header}
+use Rattle.deposit.specs.Deposit.{registerOf}
+use Rattle.sheet.specs.Text.{printed, acceptedText, textFor, textOf, Runs}
+use Rattle.text.specs.Printing.{greatest, further, laid}
+use Rattle.presses.specs.Presses.{pressLines, pressesMarks}
+use Rattle.sheet.specs.Rows.{rowsBy, printedBy}
 use Rattle.layout.specs.declared.Layout.{Layout}
 use Rattle.layout.specs.declared.Parsed.{Parsed}
 use Rattle.sheet.proofs.Agreement.{register-rows, printed-agree}

@@ -5,7 +5,7 @@ use mathlib.Core.List.{List, [], _∷_, _++_}
 use lib.ListN.{length}
 use Rattle.answer.specs.Answers.{told}
 use Rattle.register.specs.Model.{Model, Call, filing, acknowledging, asking, Answer, number, report, answerM, answersM, endM, openedM}
-use Rattle.sheet.specs.Lines.{header, rowLine, ackLine}
+use Rattle.text.specs.Lines.{header, rowLine, ackLine}
 
 -- the filings of a sheet, from this row on
 unfoldable pub filings : ℕ → List (List ℕ) → List Call

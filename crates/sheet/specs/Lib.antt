@@ -1,5 +1,3 @@
-pub mod Lines
 pub mod Text
-pub mod Printing
-pub mod Presses
+pub mod Rows
 pub mod Book

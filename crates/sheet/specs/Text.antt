@@ -8,17 +8,13 @@ use lib.ListN.{length, drop}
 use lib.Dec.{ltb}
 use Rattle.reader.specs.declared.Answer.{Answer}
 use Rattle.register.specs.declared.Register.{Register}
-use Rattle.register.specs.Calls.{openOf, fileOf, ackOf, askOf}
+use Rattle.register.specs.Calls.{ackOf, askOf}
 use Rattle.layout.specs.declared.Layout.{Layout}
 use Rattle.layout.specs.declared.Parsed.{Parsed}
 use Rattle.layout.specs.declared.Parsed.the-variants.{Refused, Accepted}
-use Rattle.layout.specs.Layout.{layoutOf, defsOf, refsOf, blobsFrom, acksFrom}
-use Rattle.sheet.specs.Lines.{header, rowLine, ackLine, refusalLine}
-
--- the blobs filed, from this row on
-unfoldable pub filedAll : Register → ℕ → List (List ℕ) → Register
-filedAll g row [] = g
-filedAll g row (blob ∷ blobs) = filedAll (fileOf g row blob .register) (row + 1) blobs
+use Rattle.layout.specs.Layout.{layoutOf, acksFrom}
+use Rattle.deposit.specs.Deposit.{registerOf}
+use Rattle.text.specs.Lines.{header, rowLine, ackLine, refusalLine}
 
 -- the rows acknowledged
 unfoldable pub ackedAll : Register → List ℕ → Register
@@ -34,10 +30,6 @@ rowLines g (suc k) row = rowLine row (askOf g row) ++ rowLines g k (row + 1)
 unfoldable pub ackLines : Register → List ℕ → List ℕ
 ackLines g [] = []
 ackLines g (row ∷ rows) = ackLine row (ackOf g row .code) ++ ackLines (ackOf g row .register) rows
-
--- the register of an accepted sheet, all blobs filed
-unfoldable pub registerOf : List ℕ → Layout → Register
-registerOf s l = filedAll (openOf (defsOf s l) (refsOf s l) (l .rows) .register) 1 (blobsFrom (l .rows) s (l .blobs))
 
 -- the print of a register with all blobs filed, before the presses
 unfoldable pub printed : Register → List ℕ → List ℕ

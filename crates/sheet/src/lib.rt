@@ -5,19 +5,16 @@ ghost use mathlib.Core.List.{_++_};
 ghost use lib.ListN.{length};
 ghost use Rattle.answer.specs.Size.{maxSize};
 ghost use Rattle.layout.specs.Layout.{acksFrom};
-ghost use Rattle.sheet.specs.Lines.{header, refusalLine};
+ghost use Rattle.text.specs.Lines.{header, refusalLine};
 ghost use Rattle.sheet.specs.Text.{acceptedText, textOf, answered, outputOf, Runs};
-ghost use Rattle.sheet.specs.Printing.{further, laid, Prints};
-ghost use Rattle.sheet.specs.Presses.{askedBy, rowsBy, pressLines, pressesMarks, printedBy};
+ghost use Rattle.text.specs.Printing.{further, laid, Prints};
+ghost use Rattle.presses.specs.Presses.{pressLines, pressesMarks};
+ghost use Rattle.sheet.specs.Rows.{askedBy, rowsBy, printedBy};
 use answer::Asked;
 use layout::Layout;
 use layout::Parsed;
 use reader::Answer;
 use register::Register;
-
-mod filing;
-mod presses;
-mod text;
 
 // What asking row i gives, by these standings and marks.
 fn asked_by(g: Register, standings: &[u32], marks: &[u32], i: usize) -> Asked
@@ -94,7 +91,7 @@ fn fill(
 fn print(out: &mut [u8], s: &[u8], layout: Layout) -> Answer
     ensures { λ r. ⌜ Runs (acceptedText (now (s .entry)) layout) r (now (out .entry)) (now (out .exit)) ⌝ }
 {
-    let g = filing::register_of(s, layout);
+    let g = deposit::register_of(s, layout);
     let standings = register::standings(g);
     let mut marks = g.marks;
     let at = layout.acks;

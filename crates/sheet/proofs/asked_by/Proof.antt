@@ -1,6 +1,6 @@
 -- `sheet::asked_by` meets its contract. Assumes nothing.
 use borrow.Author.Needs.{needs}
-use Rattle.sheet.specs.Presses.{askedBy}
+use Rattle.sheet.specs.Rows.{askedBy}
 use Rattle.sheet.proofs.asked_by.Statement.{statement}
 use Rattle.sheet.proofs.asked_by.Tie as tie
 

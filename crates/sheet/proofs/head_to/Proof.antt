@@ -1,6 +1,6 @@
 -- `sheet::head_to` meets its contract. Assumes nothing.
 use borrow.Author.Needs.{needs}
-use Rattle.sheet.proofs.Laying.{prints-then}
+use Rattle.text.proofs.Laying.{prints-then}
 use Rattle.sheet.proofs.head_to.Statement.{statement}
 use Rattle.sheet.proofs.head_to.Tie as tie
 

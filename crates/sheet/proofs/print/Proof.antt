@@ -6,7 +6,7 @@ use Prim.Native.Nat.{_<_, _^_}
 use lib.ListN.{length}
 use Rattle.answer.specs.Size.{maxSize}
 use Rattle.sheet.proofs.Printed.{rows-fit, print-short, print-fits}
-use Rattle.sheet.proofs.Pressing.{length-presses}
+use Rattle.presses.proofs.Pressing.{length-presses}
 use Rattle.sheet.proofs.print.Statement.{statement}
 use Rattle.sheet.proofs.print.Tie as tie
 

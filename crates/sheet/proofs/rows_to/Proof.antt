@@ -5,9 +5,9 @@ use native.Mathlib.Omega.{arith}
 use Prim.Native.Nat.{ℕ, _≤_, _-_}
 use mathlib.Core.List.{List}
 use lib.ListN.{length}
-use Rattle.sheet.specs.Presses.{rowsBy}
-use Rattle.sheet.specs.Printing.{Prints}
-use Rattle.sheet.proofs.Pressing.{rows-none, rows-next, rows-all}
+use Rattle.sheet.specs.Rows.{rowsBy}
+use Rattle.text.specs.Printing.{Prints}
+use Rattle.sheet.proofs.Rows.{rows-none, rows-next, rows-all}
 use Rattle.sheet.proofs.rows_to.Statement.{statement}
 use Rattle.sheet.proofs.rows_to.Tie as tie
 

@@ -4,7 +4,7 @@ use mathlib.Core.Path.{ap, _∙_}
 use native.Mathlib.Omega.{arith}
 use lib.ListN.{length}
 use Rattle.sheet.proofs.Fits.{sized}
-use Rattle.sheet.proofs.Pressing.{length-presses}
+use Rattle.presses.proofs.Pressing.{length-presses}
 use Rattle.sheet.proofs.size_of.Statement.{statement}
 use Rattle.sheet.proofs.size_of.Tie as tie
 

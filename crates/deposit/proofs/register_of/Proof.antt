@@ -1,0 +1,17 @@
+-- `deposit::register_of` meets its contract. Assumes nothing.
+use borrow.Author.Needs.{needs}
+use Rattle.deposit.proofs.Listed.{register-is}
+use Rattle.deposit.proofs.register_of.Statement.{statement}
+use Rattle.deposit.proofs.register_of.Tie as tie
+
+pub register-of-spec : {M : Type 1} → statement M
+register-of-spec =
+    tie.close
+    (tie.spec
+    (λ c κs. search needs)
+    (λ c κs. search needs)
+    (λ c κs. search needs)
+    (λ c. search needs)
+    (λ c κs. search needs)
+    (λ c κs. search needs)
+    (λ c. register-is _ _ (c .before .before .before .before .value-at .ensures) (c .before .before .before .next-at .ensures) (c .before .before .value-at2 .ensures) (c .before .open .ensures) (c .file-all .ensures)))
