@@ -1,14 +1,14 @@
 -- What the reader's second call leaves in the caller's records (document 01, "The node table": "the slice of record structs stands over it, as a
 -- second reader call with the same answers that copies the list into the caller's records (both are lent; 11 counts the shorter)").
-use Prim.Native.Nat.{ℕ, zero, suc, _+_}
+use Prim.Native.Nat.{ℕ}
 use mathlib.Core.Bool.{cond}
-use mathlib.Core.List.{List, [], _∷_, _++_}
+use mathlib.Core.List.{List, _++_}
 use lib.ListN.{drop, getD, replicate}
 use lib.Dec.{eqb, ltb}
 use Rattle.grammar.specs.Limits.{maxNodes}
-use Rattle.grammar.specs.Table.{entry, recordAt}
 use Rattle.grammar.specs.Judge.{Out, fault, done}
 use Rattle.grammar.specs.declared.Node.{Node}
+use Rattle.nodes.specs.Nodes.{blank}
 use Rattle.reader.specs.Answer.{answerOf}
 use Rattle.reader.specs.declared.Answer.{Answer}
 use Rattle.records.specs.declared.Found.{Found}
@@ -22,10 +22,6 @@ unfoldable pub recordsOf : Out → List Node → List Node
 recordsOf (fault code place) old = old
 recordsOf (done at n rs) old = rs ++ drop n old
 
--- a record of zeros
-abbrev pub blank : Node
-blank = entry 0 0 0 0 0 0
-
 -- the answer, and record i of a slice of maxNodes blank records
 abbrev pub foundOf : Out → ℕ → Found
 foundOf out i = record { answer = answerOf out; node = getD (recordsOf out (replicate maxNodes blank)) i blank }
@@ -35,12 +31,3 @@ foundOf out i = record { answer = answerOf out; node = getD (recordsOf out (repl
 -- how many records an answer gives
 abbrev pub nodesOf : Answer → ℕ
 nodesOf a = cond (eqb (a .code) 0) (a .place) 0
-
--- k records of a flat list from record i on
-unfoldable pub nodesFrom : List ℕ → ℕ → ℕ → List Node
-nodesFrom t i zero = []
-nodesFrom t i (suc k) = recordAt t i ∷ nodesFrom t (i + 1) k
-
--- the first count records are the flat list's, the rest is as it was
-abbrev pub copied : List ℕ → ℕ → List Node → List Node
-copied t count old = nodesFrom t 0 count ++ drop count old

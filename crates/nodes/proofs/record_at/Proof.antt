@@ -1,4 +1,4 @@
--- `records::record_at` meets its contract: a walk of its MIR, by hand. The place of `records[i]` is 24 · i past the slice's pointer; the fractured borrow is looked into, record i is taken out of the row, read, and put back as it was.
+-- `nodes::record_at` meets its contract: a walk of its MIR, by hand. The place of `records[i]` is 24 · i past the slice's pointer; the fractured borrow is looked into, record i is taken out of the row, read, and put back as it was.
 -- Assumes nothing.
 use mathlib.Core.Path.{refl, sym}
 use Prim.Native.Nat.{ℕ, _<_, _^_, _*_}
@@ -36,14 +36,14 @@ use denote.Triple.Table.{entered}
 use denote.Triple.Walked.{says, needs, Stays, stay-none, stay-none-slice, walkOf, goes-none, goes-none-slice, Walks, ends-at, walked, walk-meets}
 use denote.Exit.{yes}
 use Rattle.grammar.specs.declared.Node.{Node}
-use Rattle.records.specs.Records.{blank}
-use Rattle.records.proofs.Fits.{offset-fits}
+use Rattle.nodes.specs.Nodes.{blank}
+use Rattle.nodes.proofs.Fits.{offset-fits}
 use Rattle.grammar.proofs.Node as T
 use Rattle.grammar.proofs.Node.Laws as T′
-use Rattle.records.proofs.record_at.Key.{name as #records·record-at}
-use Rattle.records.proofs.record_at as record-at
-use Rattle.records.proofs.record_at.Statement as stated
-use Rattle.records.proofs.record_at.Code as code
+use Rattle.nodes.proofs.record_at.Key.{name as #nodes·record-at}
+use Rattle.nodes.proofs.record_at as record-at
+use Rattle.nodes.proofs.record_at.Statement as stated
+use Rattle.nodes.proofs.record_at.Code as code
 
 abbrev stayed : Stays (record-at.ended .signature .params) (record-at.ended .kept)
 stayed = (stay-none-slice (0 ∷ []) tt (plain (λ _. T.the-row)) yes, (stay-none (λ _. usize) yes, tt))
@@ -116,5 +116,5 @@ pub record-at-spec : {M : Type 1} → stated.statement M
 unfolding code.routine tablesOf
 record-at-spec 𝓤 H 𝓜 𝓖 𝓡 =
     entered 𝓤 H (tripleOf 𝓤 H (𝓖 .A) record-at.signature (record-at.spec 𝓤 H (𝓖 .A) (𝓜 .mem) (𝓡 .run)))
-    (tables 𝓤 H 𝓜 𝓡 code.env .C) (tables 𝓤 H 𝓜 𝓡 code.env .Λ) #records·record-at code.function (code.unfolded 𝓤 H 𝓜 𝓡)
+    (tables 𝓤 H 𝓜 𝓡 code.env .C) (tables 𝓤 H 𝓜 𝓡 code.env .Λ) #nodes·record-at code.function (code.unfolded 𝓤 H 𝓜 𝓡)
     (record-at-meets 𝓤 H (𝓖 .A) (givenOf 𝓤 H 𝓜 𝓖) (𝓜 .mem) (𝓡 .run) (tablesOf 𝓤 H 𝓜 (tables 𝓤 H 𝓜 𝓡 code.env)))

@@ -1,0 +1,5 @@
+pub mod Copied
+pub mod Fits
+pub mod Lent
+pub mod Rows
+pub mod Tests
