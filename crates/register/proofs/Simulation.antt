@@ -112,7 +112,8 @@ module _ {b : Model} {g : Register} (m : Sim b g) where
     unfolding marksAfter
     marks-same j hj =
         getD-cleared (g .marks) (g .rows) _ j (omega (arith, m .rows)) (omega (arith, m .rows, m .size, m .lengths .marks))
-        ∙ rw (thru-same j i (omega (arith, m .rows)) (omega (arith, m .rows)), m .mark j hj)
+        ∙ ap (λ (t : Bool). cond (eqb j i || t) 0 (getD (g .marks) j 0)) (thru-same j i (omega (arith, m .rows)) (omega (arith, m .rows)))
+        ∙ ap (cond (touched b i j) 0) (m .mark j hj)
 
     lengths-filed : (o : Out) → Lengths (filed g i o)
     unfolding filed marksAfter
