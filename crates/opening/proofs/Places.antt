@@ -5,7 +5,7 @@ use native.Mathlib.Omega.{arith}
 use mathlib.Core.Path.{_≡_, refl, sym, subst}
 use mathlib.Core.Bool.{Bool, true, false}
 use Rattle.element.specs.Element.{within, bare, entries, formOf}
-use Rattle.element.specs.Decided.{typeFormOf, leadFormOf}
+use Rattle.decision.specs.Decided.{typeFormOf, leadFormOf}
 use Rattle.element.specs.declared.Place.{Place}
 use Rattle.element.specs.declared.Place.the-variants as Place
 use Rattle.element.proofs.Runs.{within-true, outside}

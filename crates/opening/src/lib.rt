@@ -300,7 +300,7 @@ pub fn open_at(src: &[u8], counts: Counts, place: Place, at: usize, n: usize, d:
         let code = crowded(place, byte, 10);
         return Open::Shut { code, place: at };
     }
-    let form = element::type_form_of(place, byte);
+    let form = decision::type_form_of(place, byte);
     head_at(src, counts, form, byte32(byte), at)
 }
 
@@ -364,7 +364,7 @@ pub fn lead_at(src: &[u8], place: Place, at: usize, n: usize, d: usize) -> Lead
         return Lead::Shut { code: 2, place: at };
     }
     let byte = src[at];
-    let form = element::lead_form_of(place, byte);
+    let form = decision::lead_form_of(place, byte);
     match code_of(form, byte, n, d) {
         Code::Shut { code } => Lead::Shut { code, place: at },
         Code::Opens { byte: b, form: f } => {

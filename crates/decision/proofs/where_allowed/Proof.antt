@@ -1,8 +1,8 @@
--- `element::where_allowed` meets its contract. Assumes nothing.
+-- `decision::where_allowed` meets its contract. Assumes nothing.
 use mathlib.Core.Path.{sym, _∙_}
 use borrow.Author.Needs.{needs}
-use Rattle.element.proofs.where_allowed.Statement.{statement}
-use Rattle.element.proofs.where_allowed.Tie as tie
+use Rattle.decision.proofs.where_allowed.Statement.{statement}
+use Rattle.decision.proofs.where_allowed.Tie as tie
 
 pub where-allowed-spec : {M : Type 1} → statement M
 where-allowed-spec =

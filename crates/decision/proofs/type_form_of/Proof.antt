@@ -1,4 +1,4 @@
--- `element::type_form_of` meets its contract: at a single byte the table computes, and in a range each entry holds the byte or not. Assumes nothing.
+-- `decision::type_form_of` meets its contract: at a single byte the table computes, and in a range each entry holds the byte or not. Assumes nothing.
 use Prim.Native.Nat.{ℕ, zero-le}
 use mathlib.Core.Path.{_≡_, refl, sym, ap}
 use mathlib.Core.Bool.{Bool, true, false}
@@ -8,12 +8,12 @@ use borrow.Author.Needs.{needs}
 use native.Mathlib.Omega.{arith}
 use lib.Dec.{ltb}
 use borrow.Author.Tests.{ltb-true, ltb-false}
 use Rattle.element.specs.Element.{Entry, bare, lookup}
 use Rattle.element.specs.declared.Form.the-variants.{Refused, Modified}
-use Rattle.element.specs.Decided.{typeEntries, typeFormOf}
+use Rattle.decision.specs.Decided.{typeEntries, typeFormOf}
 use Rattle.element.proofs.Runs.{inside, same-run, above}
-use Rattle.element.proofs.type_form_of.Statement.{statement}
-use Rattle.element.proofs.type_form_of.Tie as tie
+use Rattle.decision.proofs.type_form_of.Statement.{statement}
+use Rattle.decision.proofs.type_form_of.Tie as tie
 
 returns-7 : tie.Need-returns-7
 unfolding typeFormOf
