@@ -1,4 +1,4 @@
--- What the functions before a node's children give, from facts about the bytes: one law for each way out.
+-- What the functions before a type's children give, from facts about the bytes: one law for each way out.
 -- Assumes nothing.
 use Prim.Native.Nat.{ℕ, _+_, _≤_, _<_}
 use native.Mathlib.Omega.{arith}
@@ -7,27 +7,21 @@ use mathlib.Core.Bool.{Bool, true, false, cond}
 use mathlib.Core.List.{List}
 use lib.ListN.{length, getD}
 use borrow.Author.Tests.{lt-ltb, le-ltb, le-leb}
-use Rattle.number.specs.Number.{Bytes, limit, numberAt}
-use Rattle.number.specs.Checked.{checkedAt, countAt}
 use Rattle.number.specs.declared.checked.Checked.{Checked}
 use Rattle.number.specs.declared.checked.Checked.the-variants.{Good, Bad}
 use Rattle.number.specs.declared.token.Counts.{Counts}
-use Rattle.number.proofs.Laws.{decoded}
-use Rattle.number.proofs.Checks.{checked-good, checked-onward, count-good}
-use Rattle.element.specs.Element.{within, allowed, formOf}
+use Rattle.element.specs.Element.{allowed, formOf}
 use Rattle.element.specs.declared.Place.{Place}
 use Rattle.element.specs.declared.Form.{Form}
 use Rattle.element.specs.declared.Form.the-variants.{Refused, Leaf, Named, Variable, Wrap, Modified, Counted, Array, Instance, FnPtr, Callable, Generic}
 use Rattle.element.proofs.Runs.{inside, outside}
 use Rattle.grammar.specs.Limits.{maxNodes}
 use Rattle.grammar.specs.Table.{kindOf}
-use Rattle.opening.specs.Open.{codeOf, codeAt, opening, instanceOf, headOf, openOf, openCode, leading, leadForm, leadOf}
-use Rattle.opening.specs.declared.Code.{Code}
-use Rattle.opening.specs.declared.Code.the-variants as Code
+use Rattle.node.specs.Code.{codeOf, codeAt}
+use Rattle.node.specs.declared.Code.the-variants as Code
+use Rattle.opening.specs.Open.{opening, instanceOf, headOf, openOf, openCode}
 use Rattle.opening.specs.declared.Open.{Open}
 use Rattle.opening.specs.declared.Open.the-variants as Open
-use Rattle.opening.specs.declared.Lead.{Lead}
-use Rattle.opening.specs.declared.Lead.the-variants as Lead
 
 -- ---- numbers. y is what the call gave, and its contract says that it is x
 
@@ -40,79 +34,11 @@ module _ (y x : Checked) (from : ℕ) (e : y ≡ x) where
   unfolding opening
   opening-good k v next o g h = rw (sym e ∙ g) h
 
-  pub leading-bad : (k : ℕ → ℕ → Lead) (c : ℕ) → y ≡ Bad c → Lead.Shut c from ≡ leading x from k
-  unfolding leading
-  leading-bad k c g = rw (sym e ∙ g)
-
-  pub leading-good : (k : ℕ → ℕ → Lead) (v next : ℕ) (o : Lead) → y ≡ Good v next → o ≡ k v next → o ≡ leading x from k
-  unfolding leading
-  leading-good k v next o g h = rw (sym e ∙ g) h
-
--- a number that was read is below 2^29
-pub small : (s : List ℕ) (at v next : ℕ) (y : Checked) → Bytes s → y ≡ checkedAt s at → y ≡ Good v next → v < limit
-unfolding checkedAt
-small s at v next y bytes e g = decoded s at v next bytes (checked-good (numberAt s at) v next (sym e ∙ g)) .small
-
--- a number that was read begins within the bytes
-pub number-here : (s : List ℕ) (at v next : ℕ) (y : Checked) → y ≡ checkedAt s at → y ≡ Good v next → at < length s
-number-here s at v next y e g = let k = checked-onward s at v next (sym e ∙ g) in omega arith
-
--- a count is at most what it may be
-pub count-most : (low high : ℕ) (s : List ℕ) (at v next : ℕ) (y : Checked) → y ≡ countAt low high s at → y ≡ Good v next → v ≤ high
-unfolding countAt
-count-most low high s at v next y e g = count-good low high v next (checkedAt s at) (sym e ∙ g) .2
-
--- ---- code_of and code_at
-
-module _ (d : ℕ) (f : Form) (b n : ℕ) (a : Bool) (t : a ≡ allowed f) where
-  pub code-refused : a ≡ false → Code.Shut 5 ≡ codeOf d f b n
-  unfolding codeOf
-  code-refused g = rw (sym t ∙ g)
-
-  module _ (g : a ≡ true) where
-    pub code-deep : d ≡ 0 → Code.Shut 6 ≡ codeOf d f b n
-    unfolding codeOf
-    code-deep z = rw (sym t ∙ g, z)
-
-    pub code-full : (d ≡ 0 → ⊥) → maxNodes ≤ n → Code.Shut 10 ≡ codeOf d f b n
-    unfolding codeOf
-    code-full z m = let i : 1 ≤ d = omega arith in rw (sym t ∙ g, le-leb 1 d i, le-ltb n maxNodes m)
-
-    pub code-opens : (d ≡ 0 → ⊥) → n < maxNodes → Code.Opens b f ≡ codeOf d f b n
-    unfolding codeOf
-    code-opens z m = let i : 1 ≤ d = omega arith in rw (sym t ∙ g, le-leb 1 d i, lt-ltb n maxNodes m)
-
-module _ (d : ℕ) (s : List ℕ) (p : Place) (at n : ℕ) where
-  pub code-none : length s ≤ at → Code.Shut 2 ≡ codeAt d s p at n
-  unfolding codeAt
-  code-none h = rw (le-ltb at (length s) h)
-
-  pub code-some : (f : Form) (y : Code) → at < length s → f ≡ formOf p (getD s at 0) → y ≡ codeOf d f (getD s at 0) n → y ≡ codeAt d s p at n
-  unfolding codeAt
-  code-some f y h e g = rw (lt-ltb at (length s) h, ← e) g
-
--- the first byte of all
-pub code-first : (d : ℕ) (s : List ℕ) (p : Place) (n : ℕ) (f : Form) (y : Code) → (length s ≡ 0 → ⊥) → f ≡ formOf p (getD s 0 0) → y ≡ codeOf d f (getD s 0 0) n → y ≡ codeAt d s p 0 n
-code-first d s p n f y h e g = code-some d s p 0 n f y (omega arith) e g
-
--- ---- open_at and lead_at
-
-module _ (d : ℕ) (s : List ℕ) (p : Place) (at n : ℕ) (y : Code) (e : y ≡ codeAt d s p at n) where
-  pub lead-shut : (c : ℕ) → y ≡ Code.Shut c → Lead.Shut c at ≡ leadOf d s p at n
-  unfolding leadOf
-  lead-shut c g = rw (sym e ∙ g)
-
-  module _ (b : ℕ) (f : Form) (g : y ≡ Code.Opens b f) where
-    pub lead-form : (k : ℕ) (o : Lead) → k ≡ kindOf p b → o ≡ leadForm f s k b at → o ≡ leadOf d s p at n
-    unfolding leadOf
-    lead-form k o q h = rw (sym e ∙ g, ← q) h
+-- ---- open_at
 
 pub open-none : (d : ℕ) (s : List ℕ) (p : Place) (at n : ℕ) (counts : Counts) → length s ≤ at → Open.Shut 2 at ≡ openOf d counts s p at n
 unfolding openOf codeAt
 open-none d s p at n counts h = rw (le-ltb at (length s) h)
-
-pub lead-none : (d : ℕ) (s : List ℕ) (p : Place) (at n : ℕ) → length s ≤ at → Lead.Shut 2 at ≡ leadOf d s p at n
-lead-none d s p at n h = lead-shut d s p at n _ (code-none d s p at n h) 2 refl
 
 -- a form that is not allowed is refused by 5
 refused-shut : (f : Form) (counts : Counts) (s : List ℕ) (k at : ℕ) → headOf f counts s k at ≡ cond (allowed f) (headOf f counts s k at) (Open.Shut 5 at)

@@ -1,16 +1,16 @@
--- The places that the two readers read: what the element bytes are in them, and their nodes' kinds.
+-- The places that a type reader reads: what the element bytes are in them, and their nodes' kinds.
 -- Assumes nothing.
 use Prim.Native.Nat.{ℕ}
 use native.Mathlib.Omega.{arith}
 use mathlib.Core.Path.{_≡_, refl, sym, subst}
 use mathlib.Core.Bool.{Bool, true, false}
 use Rattle.element.specs.Element.{within, bare, entries, formOf}
-use Rattle.decision.specs.Decided.{typeFormOf, leadFormOf}
+use Rattle.decision.specs.Decided.{typeFormOf}
 use Rattle.element.specs.declared.Place.{Place}
 use Rattle.element.specs.declared.Place.the-variants as Place
 use Rattle.element.proofs.Runs.{within-true, outside}
 use Rattle.grammar.specs.Table.{kindOf}
-use Rattle.opening.specs.Sorts.{plain, called}
+use Rattle.node.specs.Sorts.{plain}
 
 -- what holds in each of the places of a type
 pub in-plain : (P : Place → Type 0) → P Place.Type → P Place.Pointee → P Place.Param → P Place.RetType → P Place.Local → P Place.Pinned → P Place.ModifiedSpec
@@ -79,26 +79,6 @@ module _ (p : Place) (h : plain p ≡ true) where
         go false e false e01 false e10 true e16 x45 e45 = at-one 0x16 e16 at-16
         go false e false e01 false e10 false e16 true e45 = at-one 0x45 e45 at-45
         go false e false e01 false e10 false e16 false e45 = bare-alone e e01 e10 e16 e45
-
--- what holds in each of the places of a method
-pub in-called : (P : Place → Type 0) → P Place.FnPtrMethod → P Place.PropertySig → P Place.MethodDefSig → (p : Place) → called p ≡ true → P p
-in-called P f q m Place.Type h = let z : _≡_ {A = ℕ} 0 1 = cc in absurd (omega arith)
-in-called P f q m Place.Pointee h = let z : _≡_ {A = ℕ} 0 1 = cc in absurd (omega arith)
-in-called P f q m Place.Param h = let z : _≡_ {A = ℕ} 0 1 = cc in absurd (omega arith)
-in-called P f q m Place.RetType h = let z : _≡_ {A = ℕ} 0 1 = cc in absurd (omega arith)
-in-called P f q m Place.Local h = let z : _≡_ {A = ℕ} 0 1 = cc in absurd (omega arith)
-in-called P f q m Place.Pinned h = let z : _≡_ {A = ℕ} 0 1 = cc in absurd (omega arith)
-in-called P f q m Place.TypeSpec h = let z : _≡_ {A = ℕ} 0 1 = cc in absurd (omega arith)
-in-called P f q m Place.ModifiedSpec h = let z : _≡_ {A = ℕ} 0 1 = cc in absurd (omega arith)
-in-called P f q m Place.FnPtrMethod h = f
-in-called P f q m Place.FieldSig h = let z : _≡_ {A = ℕ} 0 1 = cc in absurd (omega arith)
-in-called P f q m Place.LocalVarSig h = let z : _≡_ {A = ℕ} 0 1 = cc in absurd (omega arith)
-in-called P f q m Place.PropertySig h = q
-in-called P f q m Place.MethodDefSig h = m
-
--- in a place of a method the form is the lead byte's
-pub called-form : (p : Place) (b : ℕ) → called p ≡ true → leadFormOf p b ≡ formOf p b
-called-form p b h = in-called (λ q. leadFormOf q b ≡ formOf q b) refl refl refl p h
 
 -- in a place of a type the kind is the byte
 pub plain-kind : (p : Place) (b : ℕ) → plain p ≡ true → b ≡ kindOf p b

@@ -1,38 +1,23 @@
-// What stands between a node's first byte and its children, read without recursion: the code byte, and the numbers behind it.
+// A type, read without recursion up to its children: the code byte, and the numbers behind it.
 ghost use mathlib.Core.Path.{_≡_};
 ghost use Prim.Native.Nat.{_+_, _<_};
 ghost use lib.ListN.{length};
 ghost use mathlib.Core.Bool.{true, cond};
-ghost use Rattle.grammar.specs.Table.{kindOf};
 ghost use Rattle.element.specs.Element.{allowed, formOf};
-ghost use Rattle.opening.specs.Sorts.{plain, called};
-ghost use Rattle.opening.specs.Open.{codeOf, instanceOf, headOf, openOf, callOf, genericOf, leadForm, leadOf};
+ghost use Rattle.node.specs.Sorts.{plain};
+ghost use Rattle.opening.specs.Open.{instanceOf, headOf, openOf};
 use element::Form;
 use element::Place;
 use grammar::MAX_NODES;
+use node::Head;
+use node::MAX_NUMBER;
 use number::checked::Checked;
 use number::token::Counts;
 
-// The greatest number that has an encoding.
-pub const MAX_NUMBER: u32 = 0x1FFFFFFF;
 // The tags below these are good in VALUETYPE, CLASS and GENERICINST, and in a modifier.
 const TYPE_TAGS: u32 = 2;
 
 const MOD_TAGS: u32 = 3;
-
-// A node's own numbers: its record's, but for the offset and the index after it.
-pub struct Head {
-    pub kind: u32,
-    pub a: u32,
-    pub b: u32,
-    pub children: u32,
-}
-
-// A code byte that is refused, with the refusal's number; or the byte and what follows it.
-pub enum Code {
-    Shut { code: u32 },
-    Opens { byte: u8, form: Form },
-}
 
 // A type before its children: refused; without children; with a method; with one or more in one place; an array, whose numbers
 // stand behind its first child.
@@ -59,54 +44,10 @@ pub enum Open {
     },
 }
 
-// A method before its return type: refused, or its own numbers.
-pub enum Lead {
-    Shut { code: u32, place: usize },
-    Go { head: Head, next: usize },
-}
-
-pub fn byte32(x: u8) -> u32
+fn byte32(x: u8) -> u32
     ensures { λ r. ⌜ r ≡ x ⌝ }
 {
     x as u32
-}
-
-// The kind of a node that begins with `byte` in a place.
-fn kind_of(place: Place, byte: u8) -> u32
-    ensures { λ r. ⌜ r ≡ kindOf place byte ⌝ }
-{
-    match place {
-        Place::Type => byte32(byte),
-        Place::Pointee => byte32(byte),
-        Place::Param => byte32(byte),
-        Place::RetType => byte32(byte),
-        Place::Local => byte32(byte),
-        Place::Pinned => byte32(byte),
-        Place::TypeSpec => byte32(byte),
-        Place::ModifiedSpec => byte32(byte),
-        Place::FnPtrMethod => 0x100,
-        Place::FieldSig => 0x101,
-        Place::LocalVarSig => 0x102,
-        Place::PropertySig => 0x103,
-        Place::MethodDefSig => 0x100,
-    }
-}
-
-// The refusals at a code byte that is there, in order: 5, 6, 10.
-pub fn code_of(form: Form, byte: u8, n: usize, d: usize) -> Code
-    ensures { λ r. ⌜ r ≡ codeOf d form byte n ⌝ }
-{
-    let good = element::is_allowed(form);
-    if good {
-        if d == 0 {
-            return Code::Shut { code: 6 };
-        }
-        if MAX_NODES <= n {
-            return Code::Shut { code: 10 };
-        }
-        return Code::Opens { byte, form };
-    }
-    Code::Shut { code: 5 }
 }
 
 // VALUETYPE or CLASS: a TypeDef or TypeRef token.
@@ -302,74 +243,4 @@ pub fn open_at(src: &[u8], counts: Counts, place: Place, at: usize, n: usize, d:
     }
     let form = decision::type_form_of(place, byte);
     head_at(src, counts, form, byte32(byte), at)
-}
-
-// ParamCount, which stands at `from`.
-fn call_at(src: &[u8], kind: u32, a: u32, byte: u8, from: usize) -> Lead
-    ensures { λ r. ⌜ r ≡ callOf (now (src .entry)) kind a byte from ⌝ }
-{
-    match number::checked::checked_at(src, from) {
-        Checked::Good { value, next } => Lead::Go {
-            head: Head {
-                kind,
-                a,
-                b: byte32(byte),
-                children: value + 1,
-            },
-            next,
-        },
-        Checked::Bad { code } => Lead::Shut { code, place: from },
-    }
-}
-
-// A generic count of at least 1, then ParamCount.
-fn generic_at(src: &[u8], kind: u32, byte: u8, at: usize) -> Lead
-    requires { ⌜ at < length (now src) ⌝ }
-    ensures { λ r. ⌜ r ≡ genericOf (now (src .entry)) kind byte at ⌝ }
-{
-    let from = at + 1;
-    match number::checked::count_at(src, from, 1, MAX_NUMBER) {
-        Checked::Good { value, next } => call_at(src, kind, value, byte, next),
-        Checked::Bad { code } => Lead::Shut { code, place: from },
-    }
-}
-
-// What follows a method's lead byte, up to its return type.
-fn lead_of(src: &[u8], form: Form, kind: u32, byte: u8, at: usize) -> Lead
-    requires { ⌜ at < length (now src) ⌝ }
-    ensures { λ r. ⌜ r ≡ leadForm form (now (src .entry)) kind byte at ⌝ }
-{
-    match form {
-        Form::Callable => call_at(src, kind, 0, byte, at + 1),
-        Form::Generic => generic_at(src, kind, byte, at),
-        Form::Refused => Lead::Shut { code: 5, place: at },
-        Form::Leaf => Lead::Shut { code: 5, place: at },
-        Form::Named => Lead::Shut { code: 5, place: at },
-        Form::Variable => Lead::Shut { code: 5, place: at },
-        Form::Wrap(_) => Lead::Shut { code: 5, place: at },
-        Form::Modified(_) => Lead::Shut { code: 5, place: at },
-        Form::Counted(_) => Lead::Shut { code: 5, place: at },
-        Form::Array => Lead::Shut { code: 5, place: at },
-        Form::Instance => Lead::Shut { code: 5, place: at },
-        Form::FnPtr => Lead::Shut { code: 5, place: at },
-    }
-}
-
-// A method up to its return type: its lead byte, its generic count where it has one, and its ParamCount.
-pub fn lead_at(src: &[u8], place: Place, at: usize, n: usize, d: usize) -> Lead
-    requires { ⌜ called place ≡ true ⌝ }
-    ensures { λ r. ⌜ r ≡ leadOf d (now (src .entry)) place at n ⌝ }
-{
-    if src.len() <= at {
-        return Lead::Shut { code: 2, place: at };
-    }
-    let byte = src[at];
-    let form = decision::lead_form_of(place, byte);
-    match code_of(form, byte, n, d) {
-        Code::Shut { code } => Lead::Shut { code, place: at },
-        Code::Opens { byte: b, form: f } => {
-            let kind = kind_of(place, b);
-            lead_of(src, f, kind, b, at)
-        }
-    }
 }

@@ -18,7 +18,7 @@ use Rattle.grammar.specs.declared.Node.{Node}
 use Rattle.grammar.proofs.Sound.{Holds, holds}
 use Rattle.grammar.proofs.Bounds.{Ends, ends-many, ends-bound, ends-array, ends-node}
 use Rattle.walk.specs.Walk.{putOf, putAfter, closes, stamp, leaves, walkOf, Walked, series, recordOf, smallOf, sealsOf, Sealed, ShapeOut, cut, shaped, shapeNumber, shapePrepend, shapeThen, lowsOf, shapeOf, shapeResult, shapeLeaves, Shaped, arrayOf}
-use Rattle.opening.specs.declared.Head.{Head}
+use Rattle.node.specs.declared.Head.{Head}
 use Rattle.walk.specs.declared.Walk.{Walk}
 use Rattle.walk.specs.declared.Walk.the-variants.{Next, Stop}
 use Rattle.walk.specs.declared.Shape.{Shape}

@@ -24,17 +24,20 @@ use Rattle.element.proofs.Runs.{allForms, lookup-passes}
 use Rattle.grammar.specs.Limits.{maxNodes}
 use Rattle.grammar.specs.Table.{kindOf, FIELD, LOCALS}
 use Rattle.grammar.specs.Judge.{Out, fault, done, bind, check, numbered, many, Reader, callable, array, body, opened, node}
-use Rattle.opening.specs.Open.{head, codeOf, codeAt, opening, instanceOf, headOf, openOf, openCode, leading, callOf, genericOf, leadForm, leadOf, leadCode}
+use Rattle.node.specs.Code.{head, codeOf, codeAt}
+use Rattle.lead.specs.Lead.{leading, callOf, genericOf, leadForm, leadOf, leadCode}
+use Rattle.opening.specs.Open.{opening, instanceOf, headOf, openOf, openCode}
 use Rattle.walk.specs.Walk.{series, recordOf}
-use Rattle.opening.specs.Sorts.{plain, called}
-use Rattle.opening.specs.declared.Head.{Head}
-use Rattle.opening.specs.declared.Code.{Code}
-use Rattle.opening.specs.declared.Code.the-variants as Code
+use Rattle.node.specs.Sorts.{plain, called}
+use Rattle.node.specs.declared.Head.{Head}
+use Rattle.node.specs.declared.Code.{Code}
+use Rattle.node.specs.declared.Code.the-variants as Code
 use Rattle.opening.specs.declared.Open.{Open}
 use Rattle.opening.specs.declared.Open.the-variants as Open
-use Rattle.opening.specs.declared.Lead.{Lead}
-use Rattle.opening.specs.declared.Lead.the-variants as Lead
-use Rattle.opening.proofs.Places.{in-plain, in-called}
+use Rattle.lead.specs.declared.Lead.{Lead}
+use Rattle.lead.specs.declared.Lead.the-variants as Lead
+use Rattle.lead.proofs.Places.{in-called}
+use Rattle.opening.proofs.Places.{in-plain}
 
 -- ---- how outcomes are put together
 

@@ -22,20 +22,22 @@ use Rattle.grammar.specs.Table.{kindOf, FIELD, LOCALS}
 use Rattle.grammar.specs.Judge.{Out, fault, done, many, bound, node}
 use Rattle.grammar.proofs.Bounds.{Ends, ends-many, ends-node}
 use Rattle.grammar.proofs.Sound.{Holds, holds}
-use Rattle.opening.specs.Open.{head, codeAt, openOf, leading, callOf, genericOf, leadForm, leadOf, leadCode}
+use Rattle.node.specs.Code.{head, codeAt}
+use Rattle.lead.specs.Lead.{leading, callOf, genericOf, leadForm, leadOf, leadCode}
+use Rattle.opening.specs.Open.{openOf}
 use Rattle.walk.specs.Walk.{series, walkOf, Walked, smallOf, Sealed, arrayOf}
-use Rattle.opening.specs.Sorts.{plain, called}
-use Rattle.opening.specs.declared.Head.{Head}
-use Rattle.opening.specs.declared.Code.{Code}
-use Rattle.opening.specs.declared.Code.the-variants as Code
+use Rattle.node.specs.Sorts.{plain, called}
+use Rattle.node.specs.declared.Head.{Head}
+use Rattle.node.specs.declared.Code.{Code}
+use Rattle.node.specs.declared.Code.the-variants as Code
 use Rattle.opening.specs.declared.Open.{Open}
 use Rattle.opening.specs.declared.Open.the-variants as Open
-use Rattle.opening.specs.declared.Lead.{Lead}
-use Rattle.opening.specs.declared.Lead.the-variants as Lead
+use Rattle.lead.specs.declared.Lead.{Lead}
+use Rattle.lead.specs.declared.Lead.the-variants as Lead
 use Rattle.walk.specs.declared.Walk.{Walk}
 use Rattle.walk.specs.declared.Walk.the-variants.{Next, Stop}
 use Rattle.walk.proofs.Opens.{sealed, bind-sealed, many-one, series-same, onOpen, onLead, Begun, begun, code-begun, Begins, node-open, open-begins, node-lead, node-shut, spec-node, field-node, locals-node}
-use Rattle.opening.proofs.Heads.{code-none}
+use Rattle.node.proofs.Codes.{code-none}
 use Rattle.walk.proofs.Laws.{walked-fault, walked-is, still, walked-seal, walked-small}
 
 -- ---- bound_at. y is what the call gave, and its contract says that it is `checkedAt`

@@ -15,8 +15,8 @@ use Rattle.grammar.specs.Limits.{maxRank}
 use Rattle.grammar.specs.Table.{entry, SIZE, LOW, six}
 use Rattle.grammar.specs.Judge.{Out, fault, done, bind, many, bound, array, node}
 use Rattle.grammar.specs.declared.Node.{Node}
-use Rattle.opening.specs.Open.{head}
-use Rattle.opening.specs.declared.Head.{Head}
+use Rattle.node.specs.Code.{head}
+use Rattle.node.specs.declared.Head.{Head}
 use Rattle.walk.specs.declared.Walk.{Walk}
 use Rattle.walk.specs.declared.Walk.the-variants as Walk
 use Rattle.walk.specs.declared.Shape.{Shape}

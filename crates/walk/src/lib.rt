@@ -11,18 +11,18 @@ ghost use Rattle.grammar.specs.Judge.{node, many, bound};
 ghost use Rattle.grammar.specs.Kinds.{rootOf};
 ghost use Rattle.walk.specs.declared.Walk.the-variants as Walk;
 ghost use Rattle.walk.specs.Walk.{putOf, putAfter, closes, smallOf, Sealed, Walked, Shaped, lowsOf, shapeOf, arrayOf, series};
-ghost use Rattle.opening.specs.Sorts.{plain, called};
+ghost use Rattle.node.specs.Sorts.{plain, called};
 use element::Place;
 use grammar::MAX_DEPTH;
 use grammar::MAX_NODES;
 use grammar::MAX_RANK;
 use grammar::Node;
+use lead::Lead;
+use node::Code;
+use node::Head;
+use node::MAX_NUMBER;
 use number::checked::Checked;
 use number::token::Counts;
-use opening::Code;
-use opening::Head;
-use opening::Lead;
-use opening::MAX_NUMBER;
 use opening::Open;
 
 const FIELD: u32 = 0x101;
@@ -274,7 +274,7 @@ fn method_at(
     requires { ⌜ (length (now src) ≤ 4096) × (called place ≡ true) ⌝ }
     ensures { λ r. ⌜ Walked (node d (now (src .entry)) counts place at n) n r (now (out .entry)) (now (out .exit)) ⌝ }
 {
-    match opening::lead_at(src, place, at, n, d) {
+    match lead::lead_at(src, place, at, n, d) {
         Lead::Shut { code, place: p } => Walk::Stop { code, place: p },
         Lead::Go { head, next } => {
             let w = types_at(
@@ -399,7 +399,7 @@ fn spec_at(out: &mut [u32], counts: Counts, src: &[u8]) -> Walk
     }
     let first = src[0];
     let form = element::type_spec_form(first);
-    match opening::code_of(form, first, 0, MAX_DEPTH) {
+    match node::code_of(form, first, 0, MAX_DEPTH) {
         Code::Shut { code } => Walk::Stop { code, place: 0 },
         Code::Opens { byte: _, form: _ } => {
             type_at(out, MAX_DEPTH, &*src, counts, Place::ModifiedSpec, 0, 0)
@@ -417,7 +417,7 @@ fn field_at(out: &mut [u32], counts: Counts, src: &[u8]) -> Walk
     }
     let first = src[0];
     let form = element::field_sig_form(first);
-    match opening::code_of(form, first, 0, MAX_DEPTH) {
+    match node::code_of(form, first, 0, MAX_DEPTH) {
         Code::Shut { code } => Walk::Stop { code, place: 0 },
         Code::Opens { byte: _, form: _ } => {
             let w = type_at(out, MAX_DEPTH - 1, &*src, counts, Place::Type, 1, 1);
@@ -442,7 +442,7 @@ fn locals_at(out: &mut [u32], counts: Counts, src: &[u8]) -> Walk
     }
     let first = src[0];
     let form = element::local_var_sig_form(first);
-    match opening::code_of(form, first, 0, MAX_DEPTH) {
+    match node::code_of(form, first, 0, MAX_DEPTH) {
         Code::Shut { code } => Walk::Stop { code, place: 0 },
         Code::Opens { byte: _, form: _ } => match number::checked::count_at(src, 1, 1, MAX_NUMBER) {
             Checked::Good { value, next } => {

@@ -11,7 +11,7 @@ use borrow.Author.Needs.{needs}
 use Rattle.grammar.specs.Judge.{node}
 use Rattle.grammar.proofs.Bounds.{ends-node}
 use Rattle.walk.specs.Walk.{series, Walked}
-use Rattle.opening.specs.Sorts.{plain}
+use Rattle.node.specs.Sorts.{plain}
 use Rattle.walk.specs.declared.Walk.{Walk}
 use Rattle.walk.specs.declared.Walk.the-variants.{Next}
 use Rattle.walk.proofs.Laws.{found, walked-as, walked-length, walked-next, walked-first, Pending, pending-item, pending-link, pending-end, pending-is, series-end, fewer-levels, fewer-items, array-stop, array-cut, array-small, array-done}
@@ -30,7 +30,7 @@ use Rattle.walk.proofs.+array_at+method_at+type_at+types_at.Lts-type_at
 use Rattle.walk.proofs.types_at.Reads as types-at
 use Rattle.walk.proofs.types_at.Kinds as types-at-kinds
 use Rattle.walk.proofs.+array_at+method_at+type_at+types_at.Lts-types_at as types-at-lts
-use Rattle.opening.proofs.lead_at.Reads as lead-at-reads
+use Rattle.lead.proofs.lead_at.Reads as lead-at-reads
 use Rattle.opening.proofs.open_at.Reads as open-at-reads
 use Rattle.walk.proofs.childless.Reads as childless-reads
 use Rattle.walk.proofs.close.Reads as close-reads

@@ -2,7 +2,7 @@
 use borrow.Author.Needs.{needs}
 use native.Mathlib.Omega.{arith}
 use Rattle.walk.proofs.Steps.{bound-bad, bound-deep, bound-full, bound-done}
-use Rattle.opening.proofs.Heads.{number-here}
+use Rattle.lead.proofs.Heads.{number-here}
 use Rattle.walk.proofs.bound_at.Statement.{statement}
 use Rattle.walk.proofs.bound_at.Tie as tie
 

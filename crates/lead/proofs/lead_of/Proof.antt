@@ -1,8 +1,8 @@
--- `opening::lead_of` meets its contract. Assumes nothing.
+-- `lead::lead_of` meets its contract. Assumes nothing.
 use borrow.Author.Needs.{needs}
-use Rattle.opening.specs.Open.{leadForm}
-use Rattle.opening.proofs.lead_of.Statement.{statement}
-use Rattle.opening.proofs.lead_of.Tie as tie
+use Rattle.lead.specs.Lead.{leadForm}
+use Rattle.lead.proofs.lead_of.Statement.{statement}
+use Rattle.lead.proofs.lead_of.Tie as tie
 
 returns : tie.Need-returns
 unfolding leadForm

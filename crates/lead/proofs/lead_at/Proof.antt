@@ -1,10 +1,11 @@
--- `opening::lead_at` meets its contract. Assumes nothing.
+-- `lead::lead_at` meets its contract. Assumes nothing.
 use mathlib.Core.Path.{_∙_}
 use borrow.Author.Needs.{needs}
-use Rattle.opening.proofs.Heads.{lead-none, code-some, lead-shut, lead-form}
-use Rattle.opening.proofs.Places.{called-form}
-use Rattle.opening.proofs.lead_at.Statement.{statement}
-use Rattle.opening.proofs.lead_at.Tie as tie
+use Rattle.node.proofs.Codes.{code-some}
+use Rattle.lead.proofs.Heads.{lead-none, lead-shut, lead-form}
+use Rattle.lead.proofs.Places.{called-form}
+use Rattle.lead.proofs.lead_at.Statement.{statement}
+use Rattle.lead.proofs.lead_at.Tie as tie
 
 pub lead-at-spec : {M : Type 1} → statement M
 lead-at-spec =

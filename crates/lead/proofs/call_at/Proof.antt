@@ -1,10 +1,10 @@
--- `opening::call_at` meets its contract. Assumes nothing.
+-- `lead::call_at` meets its contract. Assumes nothing.
 use borrow.Author.Needs.{needs}
 use native.Mathlib.Omega.{arith}
-use Rattle.opening.specs.Open.{callOf}
-use Rattle.opening.proofs.Heads.{leading-bad, leading-good, small}
-use Rattle.opening.proofs.call_at.Statement.{statement}
-use Rattle.opening.proofs.call_at.Tie as tie
+use Rattle.lead.specs.Lead.{callOf}
+use Rattle.lead.proofs.Heads.{leading-bad, leading-good, small}
+use Rattle.lead.proofs.call_at.Statement.{statement}
+use Rattle.lead.proofs.call_at.Tie as tie
 
 pub call-at-spec : {M : Type 1} → statement M
 unfolding callOf

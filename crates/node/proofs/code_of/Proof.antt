@@ -1,8 +1,8 @@
--- `opening::code_of` meets its contract. Assumes nothing.
+-- `node::code_of` meets its contract. Assumes nothing.
 use borrow.Author.Needs.{needs}
-use Rattle.opening.proofs.Heads.{code-refused, code-deep, code-full, code-opens}
-use Rattle.opening.proofs.code_of.Statement.{statement}
-use Rattle.opening.proofs.code_of.Tie as tie
+use Rattle.node.proofs.Codes.{code-refused, code-deep, code-full, code-opens}
+use Rattle.node.proofs.code_of.Statement.{statement}
+use Rattle.node.proofs.code_of.Tie as tie
 
 pub code-of-spec : {M : Type 1} → statement M
 code-of-spec =

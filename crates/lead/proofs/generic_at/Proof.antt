@@ -1,9 +1,9 @@
--- `opening::generic_at` meets its contract. Assumes nothing.
+-- `lead::generic_at` meets its contract. Assumes nothing.
 use borrow.Author.Needs.{needs}
-use Rattle.opening.specs.Open.{genericOf}
-use Rattle.opening.proofs.Heads.{leading-bad, leading-good}
-use Rattle.opening.proofs.generic_at.Statement.{statement}
-use Rattle.opening.proofs.generic_at.Tie as tie
+use Rattle.lead.specs.Lead.{genericOf}
+use Rattle.lead.proofs.Heads.{leading-bad, leading-good}
+use Rattle.lead.proofs.generic_at.Statement.{statement}
+use Rattle.lead.proofs.generic_at.Tie as tie
 
 pub generic-at-spec : {M : Type 1} → statement M
 unfolding genericOf
