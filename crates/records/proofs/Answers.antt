@@ -22,7 +22,7 @@ use Rattle.grammar.proofs.Emits.{record-at}
 use Rattle.grammar.proofs.Refusals.{read-refuses}
 use Rattle.reader.specs.Answer.{answer, answerOf, tableOf}
 use Rattle.reader.specs.declared.Answer.{Answer}
-use Rattle.nodes.specs.Nodes.{blank, nodesFrom, copied}
+use Rattle.structs.specs.Nodes.{blank, nodesFrom, copied}
 use Rattle.records.specs.Records.{shorter, recordsOf, foundOf, nodesOf}
 use Rattle.records.specs.declared.Found.{Found}
 

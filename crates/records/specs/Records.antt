@@ -8,7 +8,7 @@ use lib.Dec.{eqb, ltb}
 use Rattle.grammar.specs.Limits.{maxNodes}
 use Rattle.grammar.specs.Judge.{Out, fault, done}
 use Rattle.grammar.specs.declared.Node.{Node}
-use Rattle.nodes.specs.Nodes.{blank}
+use Rattle.structs.specs.Nodes.{blank}
 use Rattle.reader.specs.Answer.{answerOf}
 use Rattle.reader.specs.declared.Answer.{Answer}
 use Rattle.records.specs.declared.Found.{Found}

@@ -53,10 +53,10 @@ use Rattle.reader.specs.Answer.{answerOf, tableOf}
 use Rattle.reader.specs.declared.Answer.{Answer}
 use Rattle.reader.proofs.Answer as S
 use Rattle.reader.proofs.Answer.Laws as S′
-use Rattle.nodes.specs.Nodes.{copied}
+use Rattle.structs.specs.Nodes.{copied}
 use Rattle.records.specs.Records.{shorter, nodesOf, recordsOf}
 use Rattle.records.proofs.Answers.{asked, copies-out}
-use Rattle.nodes.proofs.Lent.{relends, relent-back, reshares, reshared-back}
+use Rattle.structs.proofs.Lent.{relends, relent-back, reshares, reshared-back}
 use Rattle.records.proofs.read_within as read-within
 use Rattle.records.proofs.read_within.Symbol as read-within-def
 use Rattle.records.proofs.read_within.Symbol.{name as #records·read-within}
@@ -65,10 +65,10 @@ use Rattle.records.proofs.nodes_of as nodes-of
 use Rattle.records.proofs.nodes_of.Symbol as nodes-of-def
 use Rattle.records.proofs.nodes_of.Symbol.{name as #records·nodes-of}
 use Rattle.records.proofs.nodes_of.Met as nodes-of-thm
-use Rattle.nodes.proofs.copy_records as copy′
-use Rattle.nodes.proofs.copy_records.Symbol as copy-def
-use Rattle.nodes.proofs.copy_records.Symbol.{name as #nodes·copy-records}
-use Rattle.nodes.proofs.copy_records.Met as copy-thm
+use Rattle.structs.proofs.copy_records as copy′
+use Rattle.structs.proofs.copy_records.Symbol as copy-def
+use Rattle.structs.proofs.copy_records.Symbol.{name as #nodes·copy-records}
+use Rattle.structs.proofs.copy_records.Met as copy-thm
 use Rattle.records.proofs.read_records.Key.{name as #records·read-records}
 use Rattle.records.proofs.read_records as read′
 use Rattle.records.proofs.read_records.Statement as stated

@@ -54,22 +54,22 @@ use Rattle.reader.specs.Answer.{answerOf, tableOf}
 use Rattle.reader.specs.declared.Answer.{Answer}
 use Rattle.reader.proofs.Answer as S
 use Rattle.reader.proofs.Answer.Laws as S′
-use Rattle.nodes.specs.Nodes.{blank}
+use Rattle.structs.specs.Nodes.{blank}
 use Rattle.records.specs.Records.{shorter, recordsOf}
 use Rattle.records.specs.declared.Found.{Found}
 use Rattle.records.proofs.Found as F
 use Rattle.records.proofs.Found.Laws as F′
 use Rattle.records.proofs.BigLiteral.{big-lit}
 use Rattle.records.proofs.LocalArray.{array-row, array-home}
-use Rattle.nodes.proofs.Rows.{at-list, row-lends, row-back, row-shares, row-shared-back}
+use Rattle.structs.proofs.Rows.{at-list, row-lends, row-back, row-shares, row-shared-back}
 use Rattle.records.proofs.read_records as read′
 use Rattle.records.proofs.read_records.Symbol as read-def
 use Rattle.records.proofs.read_records.Symbol.{name as #records·read-records}
 use Rattle.records.proofs.read_records.Met as read-thm
-use Rattle.nodes.proofs.record_at as record-at
-use Rattle.nodes.proofs.record_at.Symbol as record-at-def
-use Rattle.nodes.proofs.record_at.Symbol.{name as #nodes·record-at}
-use Rattle.nodes.proofs.record_at.Met as record-at-thm
+use Rattle.structs.proofs.record_at as record-at
+use Rattle.structs.proofs.record_at.Symbol as record-at-def
+use Rattle.structs.proofs.record_at.Symbol.{name as #nodes·record-at}
+use Rattle.structs.proofs.record_at.Met as record-at-thm
 use Rattle.records.proofs.record_within.Key.{name as #records·record-within}
 use Rattle.records.proofs.record_within as record-within
 use Rattle.records.proofs.record_within.Statement as stated

@@ -1,4 +1,4 @@
--- `nodes::copy_records` meets its contract: a walk of its MIR, by hand, with a loop whose turn calls `node_of` and then `store_record`, to which the slice of records is lent again (`Lent.antt`).
+-- `structs::copy_records` meets its contract: a walk of its MIR, by hand, with a loop whose turn calls `node_of` and then `store_record`, to which the slice of records is lent again (`Lent.antt`).
 -- The invariant at i (`At`): the slice of records is owned at `copied fs i ys`. The loop is left at i = count.
 -- All that the proof knows of the callees is that each meets its contract. The flat list is a `&`: what it owns is had twice at each call, and one copy is kept.
 -- Assumes nothing.
@@ -50,26 +50,26 @@ use denote.Triple.Walked.{says, needs, Stays, stay-none, stay-none-slice, stay-s
 use denote.Exit.{yes}
 use Rattle.grammar.specs.declared.Node.{Node}
 use Rattle.grammar.specs.Table.{recordAt}
-use Rattle.nodes.specs.Nodes.{copied}
-use Rattle.nodes.proofs.Copied.{copied-none, copied-one-more, copied-length}
-use Rattle.nodes.proofs.Lent.{relends, relent-back}
-use Rattle.nodes.proofs.Rows.{at-list}
-use Rattle.nodes.proofs.Tests.{tests}
+use Rattle.structs.specs.Nodes.{copied}
+use Rattle.structs.proofs.Copied.{copied-none, copied-one-more, copied-length}
+use Rattle.structs.proofs.Lent.{relends, relent-back}
+use Rattle.structs.proofs.Rows.{at-list}
+use Rattle.structs.proofs.Tests.{tests}
 use Rattle.grammar.proofs.Node as T
 use Rattle.grammar.proofs.Node.Laws as T′
-use Rattle.nodes.proofs.node_of as node-of
-use Rattle.nodes.proofs.node_of.Symbol as node-of-def
-use Rattle.nodes.proofs.node_of.Symbol.{name as #nodes·node-of}
-use Rattle.nodes.proofs.node_of.Met as node-of-thm
-use Rattle.nodes.proofs.store_record as store′
-use Rattle.nodes.proofs.store_record.Symbol as store-def
-use Rattle.nodes.proofs.store_record.Symbol.{name as #nodes·store-record}
-use Rattle.nodes.proofs.store_record.Met as store-thm
-use Rattle.nodes.proofs.copy_records.Key.{name as #nodes·copy-records}
-use Rattle.nodes.proofs.copy_records as copy′
-use Rattle.nodes.proofs.copy_records.Statement as stated
-use Rattle.nodes.proofs.copy_records.Code as code
-use Rattle.nodes.proofs.copy_records.Code.Mir as code-mir
+use Rattle.structs.proofs.node_of as node-of
+use Rattle.structs.proofs.node_of.Symbol as node-of-def
+use Rattle.structs.proofs.node_of.Symbol.{name as #nodes·node-of}
+use Rattle.structs.proofs.node_of.Met as node-of-thm
+use Rattle.structs.proofs.store_record as store′
+use Rattle.structs.proofs.store_record.Symbol as store-def
+use Rattle.structs.proofs.store_record.Symbol.{name as #nodes·store-record}
+use Rattle.structs.proofs.store_record.Met as store-thm
+use Rattle.structs.proofs.copy_records.Key.{name as #nodes·copy-records}
+use Rattle.structs.proofs.copy_records as copy′
+use Rattle.structs.proofs.copy_records.Statement as stated
+use Rattle.structs.proofs.copy_records.Code as code
+use Rattle.structs.proofs.copy_records.Code.Mir as code-mir
 
 abbrev stayed : Stays (copy′.ended .signature .params) (copy′.ended .kept)
 stayed = (stay-none-slice (0 ∷ []) tt (plain (λ _. u32)) yes, (stay-slice (1 ∷ []) tt (plain (λ _. T.the-row)), (stay-none (λ _. usize) yes, tt)))

@@ -1,4 +1,4 @@
--- `nodes::store_record` meets its contract: a walk of its MIR, by hand. The place of `records[i]` is 24 · i past the slice's pointer; the borrow is opened, record i is taken out of the row and stored to, and the borrow is closed at the list with n at i.
+-- `structs::store_record` meets its contract: a walk of its MIR, by hand. The place of `records[i]` is 24 · i past the slice's pointer; the borrow is opened, record i is taken out of the row and stored to, and the borrow is closed at the list with n at i.
 -- Assumes nothing.
 use mathlib.Core.Path.{refl, sym, ap, subst}
 use Prim.Native.Nat.{ℕ, _<_, _^_, _*_}
@@ -38,14 +38,14 @@ use denote.Triple.Table.{entered}
 use denote.Triple.Walked.{says, needs, Stays, stay-none, stay-slice, walkOf, goes-none, goes-slice, Walks, ends-at, walked, walk-meets}
 use denote.Exit.{yes}
 use Rattle.grammar.specs.declared.Node.{Node}
-use Rattle.nodes.specs.Nodes.{blank}
-use Rattle.nodes.proofs.Fits.{offset-fits}
+use Rattle.structs.specs.Nodes.{blank}
+use Rattle.structs.proofs.Fits.{offset-fits}
 use Rattle.grammar.proofs.Node as T
 use Rattle.grammar.proofs.Node.Laws as T′
-use Rattle.nodes.proofs.store_record.Key.{name as #nodes·store-record}
-use Rattle.nodes.proofs.store_record as store′
-use Rattle.nodes.proofs.store_record.Statement as stated
-use Rattle.nodes.proofs.store_record.Code as code
+use Rattle.structs.proofs.store_record.Key.{name as #nodes·store-record}
+use Rattle.structs.proofs.store_record as store′
+use Rattle.structs.proofs.store_record.Statement as stated
+use Rattle.structs.proofs.store_record.Code as code
 
 abbrev stayed : Stays (store′.ended .signature .params) (store′.ended .kept)
 stayed = (stay-slice (0 ∷ []) tt (plain (λ _. T.the-row)), (stay-none (λ _. usize) yes, (stay-none (λ _. T.the-row) yes, tt)))

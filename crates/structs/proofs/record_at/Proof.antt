@@ -1,4 +1,4 @@
--- `nodes::record_at` meets its contract: a walk of its MIR, by hand. The place of `records[i]` is 24 · i past the slice's pointer; the fractured borrow is looked into, record i is taken out of the row, read, and put back as it was.
+-- `structs::record_at` meets its contract: a walk of its MIR, by hand. The place of `records[i]` is 24 · i past the slice's pointer; the fractured borrow is looked into, record i is taken out of the row, read, and put back as it was.
 -- Assumes nothing.
 use mathlib.Core.Path.{refl, sym}
 use Prim.Native.Nat.{ℕ, _<_, _^_, _*_}
@@ -36,14 +36,14 @@ use denote.Triple.Table.{entered}
 use denote.Triple.Walked.{says, needs, Stays, stay-none, stay-none-slice, walkOf, goes-none, goes-none-slice, Walks, ends-at, walked, walk-meets}
 use denote.Exit.{yes}
 use Rattle.grammar.specs.declared.Node.{Node}
-use Rattle.nodes.specs.Nodes.{blank}
-use Rattle.nodes.proofs.Fits.{offset-fits}
+use Rattle.structs.specs.Nodes.{blank}
+use Rattle.structs.proofs.Fits.{offset-fits}
 use Rattle.grammar.proofs.Node as T
 use Rattle.grammar.proofs.Node.Laws as T′
-use Rattle.nodes.proofs.record_at.Key.{name as #nodes·record-at}
-use Rattle.nodes.proofs.record_at as record-at
-use Rattle.nodes.proofs.record_at.Statement as stated
-use Rattle.nodes.proofs.record_at.Code as code
+use Rattle.structs.proofs.record_at.Key.{name as #nodes·record-at}
+use Rattle.structs.proofs.record_at as record-at
+use Rattle.structs.proofs.record_at.Statement as stated
+use Rattle.structs.proofs.record_at.Code as code
 
 abbrev stayed : Stays (record-at.ended .signature .params) (record-at.ended .kept)
 stayed = (stay-none-slice (0 ∷ []) tt (plain (λ _. T.the-row)) yes, (stay-none (λ _. usize) yes, tt))

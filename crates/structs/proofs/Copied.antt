@@ -7,7 +7,7 @@ use mathlib.Core.List.{List, [], _∷_, _++_}
 use lib.ListN.{length, set, drop}
 use Rattle.grammar.specs.Table.{recordAt}
 use Rattle.grammar.specs.declared.Node.{Node}
-use Rattle.nodes.specs.Nodes.{nodesFrom, copied}
+use Rattle.structs.specs.Nodes.{nodesFrom, copied}
 
 module _ (flat : List ℕ) where
   pub copied-none : (old : List Node) → copied flat 0 old ≡ old

@@ -4,7 +4,7 @@ ghost use mathlib.Core.Path.{_≡_};
 ghost use Prim.Native.Nat.{_<_, _≤_, _*_, _+_};
 ghost use lib.ListN.{length, set, getD};
 ghost use Rattle.grammar.specs.Table.{recordAt};
-ghost use Rattle.nodes.specs.Nodes.{blank, copied};
+ghost use Rattle.structs.specs.Nodes.{blank, copied};
 use grammar::Node;
 
 // Writes one record.
