@@ -64,9 +64,9 @@ pub fn lead_form_of(place: Place, b: u8) -> Form
     ensures { λ r. ⌜ r ≡ leadFormOf place b ⌝ }
 {
     match place {
-        Place::FnPtrMethod => element::form_of(Place::FnPtrMethod, b),
-        Place::PropertySig => element::form_of(Place::PropertySig, b),
-        Place::MethodDefSig => element::form_of(Place::MethodDefSig, b),
+        Place::FnPtrMethod => element::lead_form(b),
+        Place::PropertySig => element::property_sig_form(b),
+        Place::MethodDefSig => element::method_def_sig_form(b),
         Place::Type => Form::Refused,
         Place::Pointee => Form::Refused,
         Place::Param => Form::Refused,

@@ -71,7 +71,7 @@ fn bare_form(b: u8) -> Form
 }
 
 // The lead bytes of a method under FNPTR.
-fn lead_form(b: u8) -> Form
+pub fn lead_form(b: u8) -> Form
     ensures { λ r. ⌜ r ≡ lookup leads b ⌝ }
 {
     match b {
@@ -190,7 +190,7 @@ pub fn local_var_sig_form(b: u8) -> Form
     }
 }
 
-fn property_sig_form(b: u8) -> Form
+pub fn property_sig_form(b: u8) -> Form
     ensures { λ r. ⌜ r ≡ formOf Place.PropertySig b ⌝ }
 {
     match b {
@@ -200,7 +200,7 @@ fn property_sig_form(b: u8) -> Form
     }
 }
 
-fn method_def_sig_form(b: u8) -> Form
+pub fn method_def_sig_form(b: u8) -> Form
     ensures { λ r. ⌜ r ≡ formOf Place.MethodDefSig b ⌝ }
 {
     match b {

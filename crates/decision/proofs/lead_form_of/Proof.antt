@@ -1,7 +1,13 @@
--- `decision::lead_form_of` meets its contract, by what `element::form_of` ensures of each place. Assumes nothing.
+-- `decision::lead_form_of` meets its contract, by what each place's function ensures. Assumes nothing.
 use borrow.Author.Needs.{needs}
+use Rattle.element.specs.Element.{formOf, entries}
 use Rattle.decision.proofs.lead_form_of.Statement.{statement}
 use Rattle.decision.proofs.lead_form_of.Tie as tie
+
+-- the place whose entries are the lead bytes alone
+returns : tie.Need-returns
+unfolding formOf entries
+returns c = rw (c .before .enum-told .given .1) (c .lead-form .ensures)
 
 pub lead-form-of-spec : {M : Type 1} → statement M
 lead-form-of-spec =
@@ -23,9 +29,9 @@ lead-form-of-spec =
     (λ c. search needs)
     (λ c. search needs)
     (λ c. search needs)
-    (λ c. rw (c .before .enum-told .given .1) (c .form-of .ensures))
-    (λ c. rw (c .before .enum-told2 .given .1) (c .form-of2 .ensures))
-    (λ c. rw (c .before .enum-told3 .given .1) (c .form-of3 .ensures))
+    returns
+    (λ c. rw (c .before .enum-told2 .given .1) (c .property-sig-form .ensures))
+    (λ c. rw (c .before .enum-told3 .given .1) (c .method-def-sig-form .ensures))
     (λ c. rw (c .enum-told4 .given .1))
     (λ c. rw (c .enum-told5 .given .1))
     (λ c. rw (c .enum-told6 .given .1))
