@@ -9,10 +9,9 @@ run:
 	@target/bin/panel examples/sample.sheet
 
 # Everything, from nothing: the layout of all files, every proof, every must-fail edit, every program, then the host tests. The last line is the verdict.
-# rt waits for each batch of checks: with twice as many jobs as processors none of them idles at a batch's end.
 test:
 	@rt fmt --check
-	@log=$$(mktemp); RT_JOBS=$${RT_JOBS:-$$((2 * $$(nproc)))} rt ci | tee $$log; $(MAKE) --no-print-directory host-test; tail -n 1 $$log; rm -f $$log
+	@log=$$(mktemp); rt ci | tee $$log; $(MAKE) --no-print-directory host-test; tail -n 1 $$log; rm -f $$log
 
 # The examples' prints; then, where cargo and cc are here, the archive and the panel against the independent implementation: its own tests, some
 # 12 million blobs and tables, and some 3,000 sheets.

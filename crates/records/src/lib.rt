@@ -8,10 +8,10 @@ ghost use Rattle.reader.specs.Answer.{answerOf, tableOf};
 ghost use Rattle.records.specs.Records.{shorter, recordsOf, foundOf, nodesOf};
 use grammar::MAX_NODES;
 use grammar::Node;
-use structs::copy_records;
-use structs::record_at;
 use number::token::Counts;
 use reader::Answer;
+use structs::copy_records;
+use structs::record_at;
 
 const BLANK: Node = Node {
     kind: 0,

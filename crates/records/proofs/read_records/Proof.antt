@@ -67,7 +67,7 @@ use Rattle.records.proofs.nodes_of.Symbol.{name as #records·nodes-of}
 use Rattle.records.proofs.nodes_of.Met as nodes-of-thm
 use Rattle.structs.proofs.copy_records as copy′
 use Rattle.structs.proofs.copy_records.Symbol as copy-def
-use Rattle.structs.proofs.copy_records.Symbol.{name as #nodes·copy-records}
+use Rattle.structs.proofs.copy_records.Symbol.{name as #structs·copy-records}
 use Rattle.structs.proofs.copy_records.Met as copy-thm
 use Rattle.records.proofs.read_records.Key.{name as #records·read-records}
 use Rattle.records.proofs.read_records as read′
@@ -190,7 +190,7 @@ module _ {M : Type 1} (𝓤 : URA M) (H : Heap 𝓤) (A : Atoms 𝓤) (W : Given
       qed W (‵ (fsep (flft (ν ∷ []) fullShare) (flft κ₂ q₂)) ∷ ‵ (ShrSlice (named 0) (ν ∷ []) u32 .own (x₁ δ zs) (sliceVal (b₁, o₁) (length zs) ∷ [])) ∷ ‵ Own₂ ∷ []) ∵ says ! there $ fsplit ! $ nothing ! $ move ! (2 ∷ 0 ∷ []) $ join ! $ move ! (1 ∷ 0 ∷ []) $ join ! $ frame ! $
       nothing ! $ owned ! usize (Is usize) (uint-makes 𝓤 H A W w64) n _ (refl, n-fits) $ fjoin ! $ move ! (2 ∷ 0 ∷ []) $ fjoin ! $ move ! (1 ∷ 0 ∷ []) $ fjoin ! $ done !
 
-  module _ (C : Calls 𝓤 H) (Λ : Loops 𝓤 H) (fm : FmC 𝓤 H (W .laws) C) (known-read : Triple 𝓤 (C #records·read-within) (ReadWithin 𝓤 H A mem run)) (known-nodes : Triple 𝓤 (C #records·nodes-of) (NodesOf 𝓤 H A mem run)) (known-copy : Triple 𝓤 (C #nodes·copy-records) (CopyRecords 𝓤 H A mem run)) where
+  module _ (C : Calls 𝓤 H) (Λ : Loops 𝓤 H) (fm : FmC 𝓤 H (W .laws) C) (known-read : Triple 𝓤 (C #records·read-within) (ReadWithin 𝓤 H A mem run)) (known-nodes : Triple 𝓤 (C #records·nodes-of) (NodesOf 𝓤 H A mem run)) (known-copy : Triple 𝓤 (C #structs·copy-records) (CopyRecords 𝓤 H A mem run)) where
     walk : Room u8 (length ss) → ent 𝓤 (onEntry 𝓤 H A read′.signature (κ₀, (κ₁, (κ₂, tt))) (q₀, (q₁, (q₂, tt))) a vals) (WpFn 𝓤 H C Λ code.function (m ∷ c ∷ s₀ ∷ s₁ ∷ s₂ ∷ []) Post)
     walk room₀ =
         qed W ((‵ (flft κ₀ q₀) ⊛ ‵ (flft κ₁ q₁) ⊛ ‵ (flft κ₂ q₂) ⊛ ‵ ftrue) ∷ ‵ (owns (u32 ∷ N.the-row ∷ ShrSlice (named 0) κ₀ u8 ∷ MutSlice (named 1) κ₁ u32 ∷ MutSlice (named 2) κ₂ T.the-row ∷ []) a vals) ∷ []) ∵ enter ! C Λ code.function (m ∷ c ∷ s₀ ∷ s₁ ∷ s₂ ∷ []) _ $
@@ -250,7 +250,7 @@ module _ {M : Type 1} (𝓤 : URA M) (H : Heap 𝓤) (A : Atoms 𝓤) (W : Given
         keep ! (0 ∷ 1 ∷ 2 ∷ 3 ∷ 4 ∷ 7 ∷ 8 ∷ []) $ by ! (exits r w (ws .1 .1 .1 .0) (us .1 .0) is e (copies-out kind counts ss fs (length ys) ys r n (ws .1 .1 .1 .0) (us .1 .0) (e .0) e₂ (e .1) e₃) l l₃′)))))))))))))))))))))))))))))))))))
 
 module _ {M : Type 1} (𝓤 : URA M) (H : Heap 𝓤) (A : Atoms 𝓤) (W : Given 𝓤 H A) (mem : Memory → SProp 𝓤) (run : Routine → Fun 𝓤) where
-  read-walks : (C : Calls 𝓤 H) (Λ : Loops 𝓤 H) → FmC 𝓤 H (W .laws) C → Triple 𝓤 (C #records·read-within) (ReadWithin 𝓤 H A mem run) → Triple 𝓤 (C #records·nodes-of) (NodesOf 𝓤 H A mem run) → Triple 𝓤 (C #nodes·copy-records) (CopyRecords 𝓤 H A mem run)
+  read-walks : (C : Calls 𝓤 H) (Λ : Loops 𝓤 H) → FmC 𝓤 H (W .laws) C → Triple 𝓤 (C #records·read-within) (ReadWithin 𝓤 H A mem run) → Triple 𝓤 (C #records·nodes-of) (NodesOf 𝓤 H A mem run) → Triple 𝓤 (C #structs·copy-records) (CopyRecords 𝓤 H A mem run)
       → Walks 𝓤 H A read′.ended stayed (WpFn 𝓤 H C Λ code.function) (read′.clauses 𝓤 H A mem run)
   read-walks C Λ fm known-read known-nodes known-copy = walked 𝓤 H A read′.ended stayed (read′.clauses 𝓤 H A mem run) (WpFn 𝓤 H C Λ code.function)
       (λ κs. (uint-vals w32, (LL.vals N.the-type N′.the-laws, (slice-vals, (slice-vals, (slice-vals, tt))))))
@@ -261,7 +261,7 @@ module _ {M : Type 1} (𝓤 : URA M) (H : Heap 𝓤) (A : Atoms 𝓤) (W : Given
       C Λ fm known-read known-nodes known-copy (are .1 .1 .0 .0 .1)))
 
 read-meets : {M : Type 1} (𝓤 : URA M) (H : Heap 𝓤) (A : Atoms 𝓤) → Given 𝓤 H A → (mem : Memory → SProp 𝓤) (run : Routine → Fun 𝓤) (𝓣 : Tables 𝓤 H)
-    → Triple 𝓤 (𝓣 .C #records·read-within) (ReadWithin 𝓤 H A mem run) → Triple 𝓤 (𝓣 .C #records·nodes-of) (NodesOf 𝓤 H A mem run) → Triple 𝓤 (𝓣 .C #nodes·copy-records) (CopyRecords 𝓤 H A mem run)
+    → Triple 𝓤 (𝓣 .C #records·read-within) (ReadWithin 𝓤 H A mem run) → Triple 𝓤 (𝓣 .C #records·nodes-of) (NodesOf 𝓤 H A mem run) → Triple 𝓤 (𝓣 .C #structs·copy-records) (CopyRecords 𝓤 H A mem run)
     → Meets 𝓤 H A read′.signature (WpFn 𝓤 H (𝓣 .C) (𝓣 .Λ) code.function) (read′.spec 𝓤 H A mem run)
 read-meets 𝓤 H A W mem run 𝓣 known-read known-nodes known-copy =
     walk-meets 𝓤 H A read′.ended stayed W (goes-none 𝓤 H A W 3 (λ _. u32) yes (λ κs x f. refl), (goes-none 𝓤 H A W 3 (λ _. N.the-row) yes (λ κs x f. refl), (goes-none-slice 𝓤 H A W 3 (0 ∷ []) tt (plain (λ _. u8)) yes, (goes-slice 𝓤 H A W 3 1 tt (plain (λ _. u32)), (goes-gave-slice 𝓤 H A W 3 2 tt (plain (λ _. T.the-row)), tt))))) (read′.clauses 𝓤 H A mem run)
@@ -275,4 +275,4 @@ read-records-spec 𝓤 H 𝓜 𝓖 𝓡 =
     (read-meets 𝓤 H (𝓖 .A) (givenOf 𝓤 H 𝓜 𝓖) (𝓜 .mem) (𝓡 .run) (tablesOf 𝓤 H 𝓜 (tables 𝓤 H 𝓜 𝓡 code.env))
     (cited 𝓤 H (ReadWithin 𝓤 H (𝓖 .A) (𝓜 .mem) (𝓡 .run)) 𝓜 𝓡 code.env #records·read-within read-within-def.routine code.calls-records·read-within (read-within-thm.met 𝓤 H 𝓜 𝓖 𝓡))
     (cited 𝓤 H (NodesOf 𝓤 H (𝓖 .A) (𝓜 .mem) (𝓡 .run)) 𝓜 𝓡 code.env #records·nodes-of nodes-of-def.routine code.calls-records·nodes-of (nodes-of-thm.met 𝓤 H 𝓜 𝓖 𝓡))
-    (cited 𝓤 H (CopyRecords 𝓤 H (𝓖 .A) (𝓜 .mem) (𝓡 .run)) 𝓜 𝓡 code.env #nodes·copy-records copy-def.routine code.calls-nodes·copy-records (copy-thm.met 𝓤 H 𝓜 𝓖 𝓡)))
+    (cited 𝓤 H (CopyRecords 𝓤 H (𝓖 .A) (𝓜 .mem) (𝓡 .run)) 𝓜 𝓡 code.env #structs·copy-records copy-def.routine code.calls-structs·copy-records (copy-thm.met 𝓤 H 𝓜 𝓖 𝓡)))

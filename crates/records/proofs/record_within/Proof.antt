@@ -68,7 +68,7 @@ use Rattle.records.proofs.read_records.Symbol.{name as #records·read-r
 use Rattle.records.proofs.read_records.Met as read-thm
 use Rattle.structs.proofs.record_at as record-at
 use Rattle.structs.proofs.record_at.Symbol as record-at-def
-use Rattle.structs.proofs.record_at.Symbol.{name as #nodes·record-at}
+use Rattle.structs.proofs.record_at.Symbol.{name as #structs·record-at}
 use Rattle.structs.proofs.record_at.Met as record-at-thm
 use Rattle.records.proofs.record_within.Key.{name as #records·record-within}
 use Rattle.records.proofs.record_within as record-within
@@ -204,7 +204,7 @@ module _ {M : Type 1} (𝓤 : URA M) (H : Heap 𝓤) (A : Atoms 𝓤) (W : Given
   said : (b ν : ℕ) (δ : GName) (rs : List Node) (n : Node) → ent 𝓤 (ensured 𝓤 H A record-at.ended (record-at.clauses 𝓤 H A mem run) (ν ∷ [], tt) (at-list T.the-row b 0 δ rs, (i, tt)) tt n) (fact 𝓤 (n ≡ getD rs i blank))
   said b ν δ rs n = exE 𝓤 _ (λ ws. snd∗ 𝓤 (sem 𝓤 H A (lasts record-at.ended (ν ∷ [], tt) (at-list T.the-row b 0 δ rs, (i, tt)) ws)) (fact 𝓤 (n ≡ getD rs i blank)))
 
-  module _ (C : Calls 𝓤 H) (Λ : Loops 𝓤 H) (fm : FmC 𝓤 H (W .laws) C) (known-read : Triple 𝓤 (C #records·read-records) (ReadRecords 𝓤 H A mem run)) (known-at : Triple 𝓤 (C #nodes·record-at) (RecordAt 𝓤 H A mem run)) where
+  module _ (C : Calls 𝓤 H) (Λ : Loops 𝓤 H) (fm : FmC 𝓤 H (W .laws) C) (known-read : Triple 𝓤 (C #records·read-records) (ReadRecords 𝓤 H A mem run)) (known-at : Triple 𝓤 (C #structs·record-at) (RecordAt 𝓤 H A mem run)) where
     walk : Room u8 (length ss) → Room u32 (length fs) → ent 𝓤 (onEntry 𝓤 H A record-within.signature (κ₀, (κ₁, tt)) (q₀, (q₁, tt)) a vals) (WpFn 𝓤 H C Λ code.function (m ∷ c ∷ s₀ ∷ s₁ ∷ vint w64 i ∷ []) Post)
     walk room₀ room₁ =
         qed W ((‵ (flft κ₀ q₀) ⊛ ‵ (flft κ₁ q₁) ⊛ ‵ ftrue) ∷ ‵ (owns (u32 ∷ N.the-row ∷ ShrSlice (named 0) κ₀ u8 ∷ MutSlice (named 1) κ₁ u32 ∷ usize ∷ []) a vals) ∷ []) ∵ enter ! C Λ code.function (m ∷ c ∷ s₀ ∷ s₁ ∷ vint w64 i ∷ []) _ $
@@ -258,7 +258,7 @@ module _ {M : Type 1} (𝓤 : URA M) (H : Heap 𝓤) (A : Atoms 𝓤) (W : Given
         keep ! (2 ∷ 3 ∷ 4 ∷ 5 ∷ []) $ by ! (exits r n (ws .1 .1 .1 .0) (ws .1 .1 .1 .1 .0) (found-is r n w w₂ is is₂) e e₂ l))))))))))))))))))))))))))))))))
 
 module _ {M : Type 1} (𝓤 : URA M) (H : Heap 𝓤) (A : Atoms 𝓤) (W : Given 𝓤 H A) (mem : Memory → SProp 𝓤) (run : Routine → Fun 𝓤) where
-  record-within-walks : (C : Calls 𝓤 H) (Λ : Loops 𝓤 H) → FmC 𝓤 H (W .laws) C → Triple 𝓤 (C #records·read-records) (ReadRecords 𝓤 H A mem run) → Triple 𝓤 (C #nodes·record-at) (RecordAt 𝓤 H A mem run)
+  record-within-walks : (C : Calls 𝓤 H) (Λ : Loops 𝓤 H) → FmC 𝓤 H (W .laws) C → Triple 𝓤 (C #records·read-records) (ReadRecords 𝓤 H A mem run) → Triple 𝓤 (C #structs·record-at) (RecordAt 𝓤 H A mem run)
       → Walks 𝓤 H A record-within.ended stayed (WpFn 𝓤 H C Λ code.function) (record-within.clauses 𝓤 H A mem run)
   record-within-walks C Λ fm known-read known-at = walked 𝓤 H A record-within.ended stayed (record-within.clauses 𝓤 H A mem run) (WpFn 𝓤 H C Λ code.function)
       (λ κs. (uint-vals w32, (LL.vals N.the-type N′.the-laws, (slice-vals, (slice-vals, (uint-vals w64, tt))))))
@@ -268,7 +268,7 @@ module _ {M : Type 1} (𝓤 : URA M) (H : Heap 𝓤) (A : Atoms 𝓤) (W : Given
       (a .1 .1 .1 .0 .ptr .0) (a .1 .1 .1 .0 .ptr .1) (a .1 .1 .1 .0 .name) (a .1 .1 .1 .0 .now) (a .1 .1 .1 .1 .0) small (a .0) (are .0 .1) (a .1 .0) (are .1 .0) C Λ fm known-read known-at (are .1 .1 .0 .0 .1) (are .1 .1 .1 .0 .0 .1)))
 
 record-within-meets : {M : Type 1} (𝓤 : URA M) (H : Heap 𝓤) (A : Atoms 𝓤) → Given 𝓤 H A → (mem : Memory → SProp 𝓤) (run : Routine → Fun 𝓤) (𝓣 : Tables 𝓤 H)
-    → Triple 𝓤 (𝓣 .C #records·read-records) (ReadRecords 𝓤 H A mem run) → Triple 𝓤 (𝓣 .C #nodes·record-at) (RecordAt 𝓤 H A mem run)
+    → Triple 𝓤 (𝓣 .C #records·read-records) (ReadRecords 𝓤 H A mem run) → Triple 𝓤 (𝓣 .C #structs·record-at) (RecordAt 𝓤 H A mem run)
     → Meets 𝓤 H A record-within.signature (WpFn 𝓤 H (𝓣 .C) (𝓣 .Λ) code.function) (record-within.spec 𝓤 H A mem run)
 record-within-meets 𝓤 H A W mem run 𝓣 known-read known-at =
     walk-meets 𝓤 H A record-within.ended stayed W (goes-none 𝓤 H A W 2 (λ _. u32) yes (λ κs x f. refl), (goes-none 𝓤 H A W 2 (λ _. N.the-row) yes (λ κs x f. refl), (goes-none-slice 𝓤 H A W 2 (0 ∷ []) tt (plain (λ _. u8)) yes, (goes-gave-slice 𝓤 H A W 2 1 tt (plain (λ _. u32)), (goes-none 𝓤 H A W 2 (λ _. usize) yes (λ κs x f. refl), tt))))) (record-within.clauses 𝓤 H A mem run)
@@ -281,4 +281,4 @@ record-within-spec 𝓤 H 𝓜 𝓖 𝓡 =
     (tables 𝓤 H 𝓜 𝓡 code.env .C) (tables 𝓤 H 𝓜 𝓡 code.env .Λ) #records·record-within code.function (code.unfolded 𝓤 H 𝓜 𝓡)
     (record-within-meets 𝓤 H (𝓖 .A) (givenOf 𝓤 H 𝓜 𝓖) (𝓜 .mem) (𝓡 .run) (tablesOf 𝓤 H 𝓜 (tables 𝓤 H 𝓜 𝓡 code.env))
     (cited 𝓤 H (ReadRecords 𝓤 H (𝓖 .A) (𝓜 .mem) (𝓡 .run)) 𝓜 𝓡 code.env #records·read-records read-def.routine code.calls-records·read-records (read-thm.met 𝓤 H 𝓜 𝓖 𝓡))
-    (cited 𝓤 H (RecordAt 𝓤 H (𝓖 .A) (𝓜 .mem) (𝓡 .run)) 𝓜 𝓡 code.env #nodes·record-at record-at-def.routine code.calls-nodes·record-at (record-at-thm.met 𝓤 H 𝓜 𝓖 𝓡)))
+    (cited 𝓤 H (RecordAt 𝓤 H (𝓖 .A) (𝓜 .mem) (𝓡 .run)) 𝓜 𝓡 code.env #structs·record-at record-at-def.routine code.calls-structs·record-at (record-at-thm.met 𝓤 H 𝓜 𝓖 𝓡)))

@@ -59,13 +59,13 @@ use Rattle.grammar.proofs.Node as T
 use Rattle.grammar.proofs.Node.Laws as T′
 use Rattle.structs.proofs.node_of as node-of
 use Rattle.structs.proofs.node_of.Symbol as node-of-def
-use Rattle.structs.proofs.node_of.Symbol.{name as #nodes·node-of}
+use Rattle.structs.proofs.node_of.Symbol.{name as #structs·node-of}
 use Rattle.structs.proofs.node_of.Met as node-of-thm
 use Rattle.structs.proofs.store_record as store′
 use Rattle.structs.proofs.store_record.Symbol as store-def
-use Rattle.structs.proofs.store_record.Symbol.{name as #nodes·store-record}
+use Rattle.structs.proofs.store_record.Symbol.{name as #structs·store-record}
 use Rattle.structs.proofs.store_record.Met as store-thm
-use Rattle.structs.proofs.copy_records.Key.{name as #nodes·copy-records}
+use Rattle.structs.proofs.copy_records.Key.{name as #structs·copy-records}
 use Rattle.structs.proofs.copy_records as copy′
 use Rattle.structs.proofs.copy_records.Statement as stated
 use Rattle.structs.proofs.copy_records.Code as code
@@ -183,7 +183,7 @@ module _ {M : Type 1} (𝓤 : URA M) (H : Heap 𝓤) (A : Atoms 𝓤) (W : Given
   Nearer-wf : WellFounded Nearer
   Nearer-wf = InvImage·wf (λ (i : Upto). count - i .0) (Nat·lt-wfRel .wf)
 
-  module _ (𝓣 : Tables 𝓤 H) (known : Triple 𝓤 (𝓣 .C #nodes·node-of) (NodeOf 𝓤 H A mem run)) (known-store : Triple 𝓤 (𝓣 .C #nodes·store-record) (Store 𝓤 H A mem run)) (l₀ l₁ l₂ l₃ l₄ l₅ l₆ l₇ l₈ l₉ : ℕ) where
+  module _ (𝓣 : Tables 𝓤 H) (known : Triple 𝓤 (𝓣 .C #structs·node-of) (NodeOf 𝓤 H A mem run)) (known-store : Triple 𝓤 (𝓣 .C #structs·store-record) (Store 𝓤 H A mem run)) (l₀ l₁ l₂ l₃ l₄ l₅ l₆ l₇ l₈ l₉ : ℕ) where
     abbrev C : Calls 𝓤 H
     C = 𝓣 .C
 
@@ -269,7 +269,7 @@ module _ {M : Type 1} (𝓤 : URA M) (H : Heap 𝓤) (A : Atoms 𝓤) (W : Given
         stepped : T (ltb (i .0) count) → (r : Node) → r ≡ recordAt fs (i .0) → set (zs (i .0)) (i .0) r ≡ zs (i .0 + 1)
         stepped less r e = ap (λ (m : Node). set (zs (i .0)) (i .0) m) e ∙ copied-one-more fs (i .0) ys (in-old less)
 
-  walk : Room u32 (length fs) → (𝓣 : Tables 𝓤 H) → Triple 𝓤 (𝓣 .C #nodes·node-of) (NodeOf 𝓤 H A mem run) → Triple 𝓤 (𝓣 .C #nodes·store-record) (Store 𝓤 H A mem run)
+  walk : Room u32 (length fs) → (𝓣 : Tables 𝓤 H) → Triple 𝓤 (𝓣 .C #structs·node-of) (NodeOf 𝓤 H A mem run) → Triple 𝓤 (𝓣 .C #structs·store-record) (Store 𝓤 H A mem run)
       → ent 𝓤 (onEntry 𝓤 H A copy′.signature (κ, (κ′, tt)) (q, (q′, tt)) a vals) (WpFn 𝓤 H (𝓣 .C) (𝓣 .Λ) code.function (sF ∷ sR ∷ vint w64 count ∷ []) Post)
   walk room-F 𝓣 known known-store =
       qed W ((‵ (flft κ q) ⊛ ‵ (flft κ′ q′) ⊛ ‵ ftrue) ∷ ‵ (owns (ShrSlice (named 0) κ u32 ∷ MutSlice (named 1) κ′ T.the-row ∷ usize ∷ []) a vals) ∷ []) ∵ enter ! (𝓣 .C) (𝓣 .Λ) code.function (sF ∷ sR ∷ vint w64 count ∷ []) _ $
@@ -283,14 +283,14 @@ module _ {M : Type 1} (𝓤 : URA M) (H : Heap 𝓤) (A : Atoms 𝓤) (W : Given
       first ! $ blocks ! $ loops ! 𝓣 Nearer Nearer-wf (At 𝓣 known known-store l₀ l₁ l₂ l₃ l₄ l₅ l₆ l₇ l₈ l₉) (turns 𝓣 known known-store l₀ l₁ l₂ l₃ l₄ l₅ l₆ l₇ l₈ l₉) (0, zero-le)))))))))))
 
 module _ {M : Type 1} (𝓤 : URA M) (H : Heap 𝓤) (A : Atoms 𝓤) (W : Given 𝓤 H A) (mem : Memory → SProp 𝓤) (run : Routine → Fun 𝓤) where
-  copy-walks : (𝓣 : Tables 𝓤 H) → Triple 𝓤 (𝓣 .C #nodes·node-of) (NodeOf 𝓤 H A mem run) → Triple 𝓤 (𝓣 .C #nodes·store-record) (Store 𝓤 H A mem run) → Walks 𝓤 H A copy′.ended stayed (WpFn 𝓤 H (𝓣 .C) (𝓣 .Λ) code.function) (copy′.clauses 𝓤 H A mem run)
+  copy-walks : (𝓣 : Tables 𝓤 H) → Triple 𝓤 (𝓣 .C #structs·node-of) (NodeOf 𝓤 H A mem run) → Triple 𝓤 (𝓣 .C #structs·store-record) (Store 𝓤 H A mem run) → Walks 𝓤 H A copy′.ended stayed (WpFn 𝓤 H (𝓣 .C) (𝓣 .Λ) code.function) (copy′.clauses 𝓤 H A mem run)
   copy-walks 𝓣 known known-store = walked 𝓤 H A copy′.ended stayed (copy′.clauses 𝓤 H A mem run) (WpFn 𝓤 H (𝓣 .C) (𝓣 .Λ) code.function)
       (λ κs. (slice-vals, (slice-vals, (uint-vals w64, tt)))) (λ κs. (shr-slice-tells (named 0) (κs .0) u32, (mut-slice-tells (named 1) (κs .1 .0) T.the-row, (uint-tells w64, tt))))
       (λ κs qs bounds a g are. needs 𝓤 ((6 * a .1 .1 .0 ≤ length (a .0 .now)) × (a .1 .1 .0 ≤ length (a .1 .0 .now))) _ (λ asked.
       walk 𝓤 H A W mem run (κs .0) (κs .1 .0) (qs .0) (qs .1 .0) (a .0 .ptr .0) (a .0 .ptr .1) (a .0 .name) (a .0 .now) (a .1 .0 .ptr .0) (a .1 .0 .ptr .1) (a .1 .0 .name) (a .1 .0 .now) (a .1 .1 .0)
       (are .1 .1 .0 .1) (are .1 .0 .0 .1) (asked .0) (asked .1) (are .0 .0 .1) 𝓣 known known-store))
 
-copy-meets : {M : Type 1} (𝓤 : URA M) (H : Heap 𝓤) (A : Atoms 𝓤) → Given 𝓤 H A → (mem : Memory → SProp 𝓤) (run : Routine → Fun 𝓤) (𝓣 : Tables 𝓤 H) → Triple 𝓤 (𝓣 .C #nodes·node-of) (NodeOf 𝓤 H A mem run) → Triple 𝓤 (𝓣 .C #nodes·store-record) (Store 𝓤 H A mem run)
+copy-meets : {M : Type 1} (𝓤 : URA M) (H : Heap 𝓤) (A : Atoms 𝓤) → Given 𝓤 H A → (mem : Memory → SProp 𝓤) (run : Routine → Fun 𝓤) (𝓣 : Tables 𝓤 H) → Triple 𝓤 (𝓣 .C #structs·node-of) (NodeOf 𝓤 H A mem run) → Triple 𝓤 (𝓣 .C #structs·store-record) (Store 𝓤 H A mem run)
     → Meets 𝓤 H A copy′.signature (WpFn 𝓤 H (𝓣 .C) (𝓣 .Λ) code.function) (copy′.spec 𝓤 H A mem run)
 copy-meets 𝓤 H A W mem run 𝓣 known known-store =
     walk-meets 𝓤 H A copy′.ended stayed W (goes-none-slice 𝓤 H A W 2 (0 ∷ []) tt (plain (λ _. u32)) yes, (goes-slice 𝓤 H A W 2 1 tt (plain (λ _. T.the-row)), (goes-none 𝓤 H A W 2 (λ _. usize) yes (λ κs x f. refl), tt))) (copy′.clauses 𝓤 H A mem run)
@@ -300,7 +300,7 @@ pub copy-records-spec : {M : Type 1} → stated.statement M
 unfolding code.routine tablesOf
 copy-records-spec 𝓤 H 𝓜 𝓖 𝓡 =
     entered 𝓤 H (tripleOf 𝓤 H (𝓖 .A) copy′.signature (copy′.spec 𝓤 H (𝓖 .A) (𝓜 .mem) (𝓡 .run)))
-    (tables 𝓤 H 𝓜 𝓡 code.env .C) (tables 𝓤 H 𝓜 𝓡 code.env .Λ) #nodes·copy-records code.function (code.unfolded 𝓤 H 𝓜 𝓡)
+    (tables 𝓤 H 𝓜 𝓡 code.env .C) (tables 𝓤 H 𝓜 𝓡 code.env .Λ) #structs·copy-records code.function (code.unfolded 𝓤 H 𝓜 𝓡)
     (copy-meets 𝓤 H (𝓖 .A) (givenOf 𝓤 H 𝓜 𝓖) (𝓜 .mem) (𝓡 .run) (tablesOf 𝓤 H 𝓜 (tables 𝓤 H 𝓜 𝓡 code.env))
-    (cited 𝓤 H (NodeOf 𝓤 H (𝓖 .A) (𝓜 .mem) (𝓡 .run)) 𝓜 𝓡 code.env #nodes·node-of node-of-def.routine code.calls-structs·node-of (node-of-thm.met 𝓤 H 𝓜 𝓖 𝓡))
-    (cited 𝓤 H (Store 𝓤 H (𝓖 .A) (𝓜 .mem) (𝓡 .run)) 𝓜 𝓡 code.env #nodes·store-record store-def.routine code.calls-structs·store-record (store-thm.met 𝓤 H 𝓜 𝓖 𝓡)))
+    (cited 𝓤 H (NodeOf 𝓤 H (𝓖 .A) (𝓜 .mem) (𝓡 .run)) 𝓜 𝓡 code.env #structs·node-of node-of-def.routine code.calls-structs·node-of (node-of-thm.met 𝓤 H 𝓜 𝓖 𝓡))
+    (cited 𝓤 H (Store 𝓤 H (𝓖 .A) (𝓜 .mem) (𝓡 .run)) 𝓜 𝓡 code.env #structs·store-record store-def.routine code.calls-structs·store-record (store-thm.met 𝓤 H 𝓜 𝓖 𝓡)))

@@ -40,7 +40,7 @@ use Rattle.structs.specs.Nodes.{blank}
 use Rattle.structs.proofs.Fits.{offset-fits}
 use Rattle.grammar.proofs.Node as T
 use Rattle.grammar.proofs.Node.Laws as T′
-use Rattle.structs.proofs.record_at.Key.{name as #nodes·record-at}
+use Rattle.structs.proofs.record_at.Key.{name as #structs·record-at}
 use Rattle.structs.proofs.record_at as record-at
 use Rattle.structs.proofs.record_at.Statement as stated
 use Rattle.structs.proofs.record_at.Code as code
@@ -116,5 +116,5 @@ pub record-at-spec : {M : Type 1} → stated.statement M
 unfolding code.routine tablesOf
 record-at-spec 𝓤 H 𝓜 𝓖 𝓡 =
     entered 𝓤 H (tripleOf 𝓤 H (𝓖 .A) record-at.signature (record-at.spec 𝓤 H (𝓖 .A) (𝓜 .mem) (𝓡 .run)))
-    (tables 𝓤 H 𝓜 𝓡 code.env .C) (tables 𝓤 H 𝓜 𝓡 code.env .Λ) #nodes·record-at code.function (code.unfolded 𝓤 H 𝓜 𝓡)
+    (tables 𝓤 H 𝓜 𝓡 code.env .C) (tables 𝓤 H 𝓜 𝓡 code.env .Λ) #structs·record-at code.function (code.unfolded 𝓤 H 𝓜 𝓡)
     (record-at-meets 𝓤 H (𝓖 .A) (givenOf 𝓤 H 𝓜 𝓖) (𝓜 .mem) (𝓡 .run) (tablesOf 𝓤 H 𝓜 (tables 𝓤 H 𝓜 𝓡 code.env)))

@@ -42,7 +42,7 @@ use Rattle.structs.specs.Nodes.{blank}
 use Rattle.structs.proofs.Fits.{offset-fits}
 use Rattle.grammar.proofs.Node as T
 use Rattle.grammar.proofs.Node.Laws as T′
-use Rattle.structs.proofs.store_record.Key.{name as #nodes·store-record}
+use Rattle.structs.proofs.store_record.Key.{name as #structs·store-record}
 use Rattle.structs.proofs.store_record as store′
 use Rattle.structs.proofs.store_record.Statement as stated
 use Rattle.structs.proofs.store_record.Code as code
@@ -130,5 +130,5 @@ pub store-record-spec : {M : Type 1} → stated.statement M
 unfolding code.routine tablesOf
 store-record-spec 𝓤 H 𝓜 𝓖 𝓡 =
     entered 𝓤 H (tripleOf 𝓤 H (𝓖 .A) store′.signature (store′.spec 𝓤 H (𝓖 .A) (𝓜 .mem) (𝓡 .run)))
-    (tables 𝓤 H 𝓜 𝓡 code.env .C) (tables 𝓤 H 𝓜 𝓡 code.env .Λ) #nodes·store-record code.function (code.unfolded 𝓤 H 𝓜 𝓡)
+    (tables 𝓤 H 𝓜 𝓡 code.env .C) (tables 𝓤 H 𝓜 𝓡 code.env .Λ) #structs·store-record code.function (code.unfolded 𝓤 H 𝓜 𝓡)
     (store-meets 𝓤 H (𝓖 .A) (givenOf 𝓤 H 𝓜 𝓖) (𝓜 .mem) (𝓡 .run) (tablesOf 𝓤 H 𝓜 (tables 𝓤 H 𝓜 𝓡 code.env)))
