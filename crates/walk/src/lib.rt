@@ -319,16 +319,9 @@ fn types_at(
             Open::Shut { code, place: q } => Walk::Stop { code, place: q },
             Open::Leaf { head, next } => childless(out, m, head, e, next),
             Open::Method { head, next } => {
-                let method = method_at(
-                    out,
-                    deep - 1,
-                    &*src,
-                    counts,
-                    Place::FnPtrMethod,
-                    next,
-                    m + 1,
-                );
-                seal(out, m, head, e, method)
+                let inner = Place::FnPtrMethod;
+                let sub = method_at(out, deep - 1, &*src, counts, inner, next, m + 1);
+                seal(out, m, head, e, sub)
             }
             Open::All { head, child, next } => {
                 let k = head.children;
@@ -340,8 +333,8 @@ fn types_at(
                     deep -= 1;
                     continue;
                 }
-                let all = types_at(out, deep - 1, &*src, counts, child, child, k, next, m + 1);
-                seal(out, m, head, e, all)
+                let sub = types_at(out, deep - 1, &*src, counts, child, child, k, next, m + 1);
+                seal(out, m, head, e, sub)
             }
             Open::Array { kind } => array_at(out, deep - 1, &*src, counts, kind, e, m),
         };
