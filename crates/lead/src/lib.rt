@@ -11,18 +11,13 @@ use element::Place;
 use node::Code;
 use node::Head;
 use node::MAX_NUMBER;
+use node::byte32;
 use number::checked::Checked;
 
 // A method before its return type: refused, or its own numbers.
 pub enum Lead {
     Shut { code: u32, place: usize },
     Go { head: Head, next: usize },
-}
-
-fn byte32(x: u8) -> u32
-    ensures { λ r. ⌜ r ≡ x ⌝ }
-{
-    x as u32
 }
 
 // The kind of a node that begins with `byte` in a place.

@@ -21,6 +21,13 @@ pub enum Code {
     Opens { byte: u8, form: Form },
 }
 
+// A byte as a number.
+pub fn byte32(x: u8) -> u32
+    ensures { λ r. ⌜ r ≡ x ⌝ }
+{
+    x as u32
+}
+
 // The refusals at a code byte that is there, in order: 5, 6, 10.
 pub fn code_of(form: Form, byte: u8, n: usize, d: usize) -> Code
     ensures { λ r. ⌜ r ≡ codeOf d form byte n ⌝ }

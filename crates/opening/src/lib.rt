@@ -11,6 +11,7 @@ use element::Place;
 use grammar::MAX_NODES;
 use node::Head;
 use node::MAX_NUMBER;
+use node::byte32;
 use number::checked::Checked;
 use number::token::Counts;
 
@@ -42,12 +43,6 @@ pub enum Open {
     Array {
         kind: u32,
     },
-}
-
-fn byte32(x: u8) -> u32
-    ensures { λ r. ⌜ r ≡ x ⌝ }
-{
-    x as u32
 }
 
 // VALUETYPE or CLASS: a TypeDef or TypeRef token.

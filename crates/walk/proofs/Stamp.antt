@@ -7,7 +7,7 @@ use mathlib.Core.List.{List, [], _∷_, _++_, append-assoc}
 use Prim.Native.Nat.{ℕ, zero, suc, _+_, _-_, _*_, _≤_, _<_}
 use native.Mathlib.Nat.{add-zero}
 use native.Mathlib.Omega.{arith}
-use lib.ListN.{length, set, take, drop, length-set, length-append, take-append-drop}
+use lib.ListN.{length, set, take, drop, length-append, take-append-drop}
 use lib.Seq.{sets, length-sets, sets-eq, set-set, set-comm, drop-at, take-append-le, length-take-le, take-take}
 use lib.Dec.{leb}
 use Rattle.grammar.specs.Table.{entry, six, flat}
@@ -125,15 +125,6 @@ after-in o n a h = simp (le-leb (6 * n + 6) (length o) h)
 pub after-out : (o : List ℕ) (n a : ℕ) → length o < 6 * n + 6 → putAfter o n a ≡ o
 unfolding putAfter
 after-out o n a h = simp (lt-leb (6 * n + 6) (length o) h)
-
-pub length-after : (o : List ℕ) (n a : ℕ) → length (putAfter o n a) ≡ length o
-unfolding putAfter
-length-after o n a = cond-by (λ (l : List ℕ). length l ≡ length o) (leb (6 * n + 6) (length o)) (λ _. length-set o (6 * n + 5) a) (λ _. refl)
-
-pub length-closes : (k n a : ℕ) (o : List ℕ) → length (closes o n k a) ≡ length o
-unfolding closes
-length-closes zero n a o = refl
-length-closes (suc k) n a o = length-closes k (n - 1) a (putAfter o (n - 1) a) ∙ length-after o (n - 1) a
 
 pub closes-more : (o : List ℕ) (n k a : ℕ) → 0 < k → closes o n k a ≡ closes (putAfter o (n - 1) a) (n - 1) (k - 1) a
 unfolding closes
