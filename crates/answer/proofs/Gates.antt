@@ -1,27 +1,45 @@
 -- What it says of a call that it is admitted.
 -- Assumes nothing.
-use Prim.Native.Nat.{ℕ, _≤_}
+use Prim.Native.Nat.{ℕ, _*_, _≤_}
 use mathlib.Core.Path.{_≡_, refl}
 use mathlib.Core.Bool.{Bool, true, false, cond, _||_}
 use native.Mathlib.Omega.{arith}
 use lib.Dec.{ltb, eqb}
-use borrow.Author.Tests.{ltb-false, eqb-false}
-use Rattle.answer.specs.Size.{maxSize}
-use Rattle.answer.specs.Answers.{gate}
+use borrow.Author.Tests.{le-ltb, ltb-false, eqb-false}
+use Rattle.answer.specs.Size.{maxSize, words}
+use Rattle.answer.specs.Answers.{rowGate, gate}
 
-pub record Admitted (rows row : ℕ) : Type 0 where
-  pub size : rows ≤ maxSize
+pub record InRow (rows row : ℕ) : Type 0 where
   pub low : 1 ≤ row
   pub high : row ≤ rows
 
-gate-cases : (rows row : ℕ) (a b c : Bool) → ltb maxSize rows ≡ a → eqb row 0 ≡ b → ltb rows row ≡ c → _≡_ {A = ℕ} (cond a 19 (cond (b || c) 16 0)) 0 → Admitted rows row
-gate-cases rows row true b c e f h z = absurd (omega arith)
-gate-cases rows row false true c e f h z = absurd (omega arith)
-gate-cases rows row false false true e f h z = absurd (omega arith)
-gate-cases rows row false false false e f h z =
-    let ne : row ≡ 0 → ⊥ = eqb-false row 0 f in
-    record { size = ltb-false maxSize rows e; low = omega arith; high = ltb-false rows row h }
+pub row-ok : (rows row : ℕ) → rowGate rows row ≡ 0 → InRow rows row
+unfolding rowGate
+row-ok rows row h = go (eqb row 0) (ltb rows row) refl refl h
+  where
+    go : (c d : Bool) → eqb row 0 ≡ c → ltb rows row ≡ d → _≡_ {A = ℕ} (cond (c || d) 16 0) 0 → InRow rows row
+    go true d f h z = absurd (omega arith)
+    go false true f h z = absurd (omega arith)
+    go false false f h z = let ne : row ≡ 0 → ⊥ = eqb-false row 0 f in record { low = omega arith; high = ltb-false rows row h }
 
-pub gate-ok : (rows row : ℕ) → gate rows row ≡ 0 → Admitted rows row
+pub record Admitted (lent rows row : ℕ) : Type 0 where
+  pub size : rows ≤ maxSize
+  pub enough : rows * words ≤ lent
+  pub low : 1 ≤ row
+  pub high : row ≤ rows
+
+pub gate-ok : (lent rows row : ℕ) → gate lent rows row ≡ 0 → Admitted lent rows row
 unfolding gate
-gate-ok rows row h = gate-cases rows row (ltb maxSize rows) (eqb row 0) (ltb rows row) refl refl refl h
+gate-ok lent rows row h = go (ltb maxSize rows) (ltb lent (rows * words)) refl refl h
+  where
+    go : (a b : Bool) → ltb maxSize rows ≡ a → ltb lent (rows * words) ≡ b → _≡_ {A = ℕ} (cond a 19 (cond b 27 (rowGate rows row))) 0 → Admitted lent rows row
+    go true b e l z = absurd (omega arith)
+    go false true e l z = absurd (omega arith)
+    go false false e l z =
+        let r = row-ok rows row z in
+        record { size = ltb-false maxSize rows e; enough = ltb-false lent (rows * words) l; low = r .low; high = r .high }
+
+-- of a register within the size, with enough lent, the row alone decides
+pub gate-within : (lent rows row : ℕ) → rows ≤ maxSize → rows * words ≤ lent → gate lent rows row ≡ rowGate rows row
+unfolding gate
+gate-within lent rows row h k = rw (le-ltb maxSize rows h, le-ltb lent (rows * words) k)

@@ -1,13 +1,18 @@
 -- Document 01, "The register": what the calls answer, by the number of rows and by what is kept of a row.
-use Prim.Native.Nat.{ℕ}
+use Prim.Native.Nat.{ℕ, _*_}
 use mathlib.Core.Bool.{cond, _||_}
 use lib.Dec.{ltb, eqb}
-use Rattle.answer.specs.Size.{maxSize}
+use Rattle.answer.specs.Size.{maxSize, words}
 use Rattle.answer.specs.declared.Asked.{Asked}
 
--- "Filing, asking and acknowledging first answer 19 for a register whose row number is above 64"; then 16 "row not in 1..rows"; else 0
-unfoldable pub gate : (rows row : ℕ) → ℕ
-gate rows row = cond (ltb maxSize rows) 19 (cond (eqb row 0 || ltb rows row) 16 0)
+-- 16 "row not in 1..rows", else 0
+unfoldable pub rowGate : (rows row : ℕ) → ℕ
+rowGate rows row = cond (eqb row 0 || ltb rows row) 16 0
+
+-- "Filing, asking and acknowledging first answer 19 for a register whose row number is above" the greatest; then, document 02, 27 where fewer
+-- numbers are lent than its rows need; then 16 or 0
+unfoldable pub gate : (lent rows row : ℕ) → ℕ
+gate lent rows row = cond (ltb maxSize rows) 19 (cond (ltb lent (rows * words)) 27 (rowGate rows row))
 
 -- "17 if the row stands EMPTY or CLEAN; 18 if it has a mark", else 0
 unfoldable pub ackCode : (standing mark : ℕ) → ℕ

@@ -1,9 +1,12 @@
 // What the register's calls answer, by plain numbers: the number of rows, and a row's standing, state, finding, place and mark.
 ghost use mathlib.Core.Path.{_≡_};
-ghost use Rattle.answer.specs.Answers.{gate, ackCode, askedOf};
+ghost use Rattle.answer.specs.Answers.{rowGate, gate, ackCode, askedOf};
 
 // The most rows.
-pub const SIZE: usize = 64;
+pub const SIZE: usize = 512;
+
+// The words of 32 bits that are lent for each row, to hold its set of rows.
+pub const WORDS: usize = 16;
 
 pub struct Asked {
     pub code: u32,
@@ -13,13 +16,10 @@ pub struct Asked {
     pub mark: u32,
 }
 
-// 19, 16 or 0: the refusals that come first on any call but opening.
-pub fn admit(rows: usize, row: usize) -> u32
-    ensures { λ r. ⌜ r ≡ gate rows row ⌝ }
+// 16 or 0: whether there is such a row.
+pub fn row_code(rows: usize, row: usize) -> u32
+    ensures { λ r. ⌜ r ≡ rowGate rows row ⌝ }
 {
-    if SIZE < rows {
-        return 19;
-    }
     if row == 0 {
         return 16;
     }
@@ -29,8 +29,21 @@ pub fn admit(rows: usize, row: usize) -> u32
     0
 }
 
+// 19, 27, 16 or 0: the refusals that come first on any call but opening, with so many words lent.
+pub fn admit(lent: usize, rows: usize, row: usize) -> u32
+    ensures { λ r. ⌜ r ≡ gate lent rows row ⌝ }
+{
+    if SIZE < rows {
+        return 19;
+    }
+    if lent < rows * WORDS {
+        return 27;
+    }
+    row_code(rows, row)
+}
+
 // 17, 18 or 0: what acknowledging a row of this standing and mark answers.
-pub fn ack_code(standing: u32, mark: u32) -> u32
+pub fn ack_code(standing: u8, mark: u8) -> u32
     ensures { λ r. ⌜ r ≡ ackCode standing mark ⌝ }
 {
     if standing == 0 {
@@ -46,23 +59,23 @@ pub fn ack_code(standing: u32, mark: u32) -> u32
 }
 
 // What asking gives of a row, by what is kept of it: finding and place are 0 unless its blob was refused.
-pub fn asked_of(standing: u32, state: u32, finding: u32, place: usize, mark: u32) -> Asked
+pub fn asked_of(standing: u8, state: u8, finding: u8, place: u16, mark: u8) -> Asked
     ensures { λ r. ⌜ r ≡ askedOf standing state finding place mark ⌝ }
 {
     if state == 1 {
         return Asked {
             code: 0,
-            standing,
-            finding,
-            place,
-            mark,
+            standing: standing as u32,
+            finding: finding as u32,
+            place: place as usize,
+            mark: mark as u32,
         };
     }
     Asked {
         code: 0,
-        standing,
+        standing: standing as u32,
         finding: 0,
         place: 0,
-        mark,
+        mark: mark as u32,
     }
 }

@@ -1,4 +1,4 @@
--- Laws of bits: the bits of a join, of one bit set, and of a row emptied.
+-- Laws of bits: the bits of a join, of one bit set, and of rows emptied.
 -- Assumes nothing.
 use Prim.Native.Nat.{ℕ, zero, suc, _+_, _*_, _/_, _%_, _^_, _-_, _<_, _≤_, max}
 use mathlib.Core.Path.{_≡_, refl, sym, ap, _∙_, subst}
@@ -98,6 +98,11 @@ at-put-other w l r s q t ne hs ht =
     (getD-set-other l (r * w + s / 32) (q * w + t / 32) _ 0
     (⊎-elim (λ a. omega arith) (λ a. omega arith) (rows-apart w q r ne)))
 
+-- a word out of row r keeps its number
+pub getD-put-out : (w : ℕ) (l : List ℕ) (r s p : ℕ) → s < 32 * w → (p < r * w) ⊎ (r * w + w ≤ p) → getD (putBit w l r s) p 0 ≡ getD l p 0
+unfolding putBit
+getD-put-out w l r s p hs h = getD-set-other l (r * w + s / 32) p _ 0 (⊎-elim (λ a. omega arith) (λ a. omega arith) h)
+
 pub length-put : (w : ℕ) (l : List ℕ) (r s : ℕ) → length (putBit w l r s) ≡ length l
 unfolding putBit
 length-put w l r s = length-set l (r * w + s / 32) _
@@ -120,7 +125,7 @@ unfolding zeroed
 length-zeroed l d zero = refl
 length-zeroed l d (suc x) = length-set (zeroed l d x) (d + x) 0 ∙ length-zeroed l d x
 
-getD-zeroed-out : (l : List ℕ) (d x p : ℕ) → (p < d) ⊎ (d + x ≤ p) → getD (zeroed l d x) p 0 ≡ getD l p 0
+pub getD-zeroed-out : (l : List ℕ) (d x p : ℕ) → (p < d) ⊎ (d + x ≤ p) → getD (zeroed l d x) p 0 ≡ getD l p 0
 unfolding zeroed
 getD-zeroed-out l d zero p h = refl
 getD-zeroed-out l d (suc x) p h =
@@ -142,3 +147,13 @@ at-emptied w l r s h hs = ap (λ (x : ℕ). bit x (s % 32)) (getD-zeroed l (r * 
 pub at-emptied-other : (w : ℕ) (l : List ℕ) (r q s : ℕ) → (q ≡ r → ⊥) → s < 32 * w → at w (zeroed l (r * w) w) q s ≡ at w l q s
 unfolding at
 at-emptied-other w l r q s ne hs = ap (λ (x : ℕ). bit x (s % 32)) (getD-zeroed-out l (r * w) w (q * w + s / 32) (pos-apart w q r (s / 32) ne (word-lt hs)))
+
+-- the first n rows emptied
+pub at-zeroed : (w n : ℕ) (l : List ℕ) (r s : ℕ) → n * w ≤ length l → r < n → s < 32 * w → at w (zeroed l 0 (n * w)) r s ≡ false
+unfolding at
+at-zeroed w n l r s h hr hs =
+    let e : 0 + (r * w + s / 32) ≡ r * w + s / 32 = omega arith in
+    ap (λ (x : ℕ). bit x (s % 32))
+    (subst (λ (p : ℕ). getD (zeroed l 0 (n * w)) p 0 ≡ 0) e
+    (getD-zeroed l 0 (n * w) (r * w + s / 32) (omega (arith, row-in n w r hr, word-lt hs)) (omega arith)))
+    ∙ zero-bit (s % 32)

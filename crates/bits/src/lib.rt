@@ -1,8 +1,8 @@
-// Sets of rows as bits, w words of 32 bits to a row: a bit asked, a bit set, a row emptied. For any number of rows.
+// Sets of rows as bits, w words of 32 bits to a row: a bit asked, a bit set, words cleared. For any number of rows.
 ghost use mathlib.Core.Path.{_≡_};
 ghost use Prim.Native.Nat.{_+_, _*_, _/_, _≤_, _<_};
 ghost use lib.ListN.{length};
-ghost use Rattle.bits.specs.Bits.{at, putBit, emptied};
+ghost use Rattle.bits.specs.Bits.{at, putBit, zeroed};
 
 // Row r's bit s.
 pub fn get(m: &[u32], w: usize, r: usize, s: usize) -> bool
@@ -21,13 +21,12 @@ pub fn put(m: &mut [u32], w: usize, r: usize, s: usize)
     m[k] = m[k] | (1u32 << (s % 32));
 }
 
-// Takes all bits from row r.
-pub fn empty(m: &mut [u32], w: usize, r: usize)
-    requires { ⌜ r * w + w ≤ length (now m) ⌝ }
-    ensures { λ _. ⌜ now (m .exit) ≡ emptied w (now (m .entry)) r ⌝ }
+// Sets the n words from d on to 0.
+pub fn clear(m: &mut [u32], d: usize, n: usize)
+    requires { ⌜ d + n ≤ length (now m) ⌝ }
+    ensures { λ _. ⌜ now (m .exit) ≡ zeroed (now (m .entry)) d n ⌝ }
 {
-    let d = r * w;
-    for x in 0..w {
+    for x in 0..n {
         m[d + x] = 0;
     }
 }

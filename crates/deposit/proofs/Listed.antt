@@ -11,7 +11,7 @@ use borrow.Author.Tests.{leb-true}
 use Rattle.number.specs.Checked.{checkedAt}
 use Rattle.number.specs.declared.checked.Checked.{Checked}
 use Rattle.number.specs.declared.checked.Checked.the-variants.{Good, Bad}
-use Rattle.register.specs.Calls.{openOf, fileOf}
+use Rattle.register.specs.Calls.{Left, left, Held, held, holding, openOf, fileOf}
 use Rattle.register.specs.declared.Register.{Register}
 use Rattle.register.specs.declared.Changed.{Changed}
 use Rattle.layout.specs.Layout.{more, blobOf, blobAt, valueOf, nextOf, defsOf, refsOf, blobsFrom}
@@ -58,25 +58,25 @@ unfolding blobAt
 blob-within s at er {v} {next} e = blob-cases (length s) v next (checkedAt s at) (sym er ∙ e)
 
 -- ---- filing
-module _ {w : Register} (g : Register) (row : ℕ) (blobs : List (List ℕ)) (x : filedAll g row blobs ≡ w) where
-  pub filed-none : blobs ≡ [] → g ≡ w
+module _ {w : Held} (g : Register) (l : List ℕ) (row : ℕ) (blobs : List (List ℕ)) (x : filedAll (holding g l) row blobs ≡ w) where
+  pub filed-none : blobs ≡ [] → holding g l ≡ w
   unfolding filedAll
-  filed-none e = sym (ap (filedAll g row) e) ∙ x
+  filed-none e = sym (ap (filedAll (holding g l) row) e) ∙ x
 
   pub filed-next : (s : List ℕ) (v next : ℕ) (rest : List (List ℕ)) → v ≤ next → blobs ≡ take v (drop (next - v) s) ∷ rest
-      → (c : Changed) → c ≡ fileOf g row (take (next - (next - v)) (drop (next - v) s)) → filedAll (c .register) (row + 1) rest ≡ w
+      → (c : Changed) (m : List ℕ) → left c m ≡ fileOf g row (take (next - (next - v)) (drop (next - v) s)) l → filedAll (holding (c .register) m) (row + 1) rest ≡ w
   unfolding filedAll
-  filed-next s v next rest h e c ec =
+  filed-next s v next rest h e c m ec =
       let z : next - (next - v) ≡ v = omega arith in
-      ap (λ (y : Changed). filedAll (y .register) (row + 1) rest) (subst (λ j. c ≡ fileOf g row (take j (drop (next - v) s))) z ec)
-      ∙ sym (ap (filedAll g row) e) ∙ x
+      ap (λ (y : Left). filedAll (held y) (row + 1) rest) (subst (λ j. left c m ≡ fileOf g row (take j (drop (next - v) s)) l) z ec)
+      ∙ sym (ap (filedAll (holding g l) row) e) ∙ x
 
 -- the register of an accepted sheet, step by step
-pub register-is : (s : List ℕ) (l : Layout) {defs after refs : ℕ} {c : Changed} {g : Register} → defs ≡ valueOf (checkedAt s (l .counts))
-    → after ≡ nextOf (checkedAt s (l .counts)) (l .counts) → refs ≡ valueOf (checkedAt s after) → c ≡ openOf defs refs (l .rows)
-    → g ≡ filedAll (c .register) 1 (blobsFrom (l .rows) s (l .blobs)) → g ≡ registerOf s l
+pub register-is : (s : List ℕ) (l : Layout) {defs after refs : ℕ} {c : Changed} {g : Held} (sets m : List ℕ) → defs ≡ valueOf (checkedAt s (l .counts))
+    → after ≡ nextOf (checkedAt s (l .counts)) (l .counts) → refs ≡ valueOf (checkedAt s after) → left c m ≡ openOf defs refs (l .rows) sets
+    → g ≡ filedAll (holding (c .register) m) 1 (blobsFrom (l .rows) s (l .blobs)) → g ≡ registerOf s l sets
 unfolding registerOf defsOf refsOf
-register-is s l {defs} {after} {refs} {c} {g} ed ea er ec eg =
+register-is s l {defs} {after} {refs} {c} {g} sets m ed ea er ec eg =
     let f : refs ≡ valueOf (checkedAt s (nextOf (checkedAt s (l .counts)) (l .counts))) = subst (λ a. refs ≡ valueOf (checkedAt s a)) ea er in
-    eg ∙ ap (λ (y : Changed). filedAll (y .register) 1 (blobsFrom (l .rows) s (l .blobs)))
-    (ec ∙ ap (λ d. openOf d refs (l .rows)) ed ∙ ap (λ r. openOf (valueOf (checkedAt s (l .counts))) r (l .rows)) f)
+    eg ∙ ap (λ (y : Left). filedAll (held y) 1 (blobsFrom (l .rows) s (l .blobs)))
+    (ec ∙ ap (λ d. openOf d refs (l .rows) sets) ed ∙ ap (λ r. openOf (valueOf (checkedAt s (l .counts))) r (l .rows) sets) f)

@@ -3,6 +3,7 @@ ghost use mathlib.Core.Path.{_≡_};
 ghost use Rattle.number.specs.Checked.{checkedAt};
 ghost use Rattle.layout.specs.Layout.{defsOf, refsOf, blobsFrom};
 ghost use Rattle.layout.specs.Layout.{valueOf as Layout·valueOf, nextOf as Layout·nextOf};
+ghost use Rattle.register.specs.Calls.{holding};
 ghost use Rattle.deposit.specs.Deposit.{filedAll, registerOf};
 use layout::Layout;
 use layout::blob_at;
@@ -30,8 +31,8 @@ fn next_at(s: &[u8], at: usize) -> usize
 }
 
 // Files `count` blobs, which stand in the sheet from `at` on, from row 1 on.
-fn file_all(s: &[u8], at: usize, count: u32, g: Register) -> Register
-    ensures { λ r. ⌜ r ≡ filedAll g 1 (blobsFrom count (now (s .entry)) at) ⌝ }
+fn file_all(sets: &mut [u32], s: &[u8], at: usize, count: u32, g: Register) -> Register
+    ensures { λ r. ⌜ holding r (now (sets .exit)) ≡ filedAll (holding g (now (sets .entry))) 1 (blobsFrom count (now (s .entry)) at) ⌝ }
 {
     let mut register = g;
     let mut here = at;
@@ -41,7 +42,7 @@ fn file_all(s: &[u8], at: usize, count: u32, g: Register) -> Register
         match blob_at(s, here) {
             Checked::Good { value, next } => {
                 let start = next - value as usize;
-                let changed = register::file(register, row, &s[start..next]);
+                let changed = register::file(register, row, &s[start..next], sets);
                 register = changed.register;
                 here = next;
             }
@@ -53,15 +54,15 @@ fn file_all(s: &[u8], at: usize, count: u32, g: Register) -> Register
     register
 }
 
-// The register of an accepted sheet.
-pub fn register_of(s: &[u8], layout: Layout) -> Register
-    ensures { λ r. ⌜ r ≡ registerOf (now (s .entry)) layout ⌝ }
+// The register of an accepted sheet, with words that are lent for its sets.
+pub fn register_of(sets: &mut [u32], s: &[u8], layout: Layout) -> Register
+    ensures { λ r. ⌜ holding r (now (sets .exit)) ≡ registerOf (now (s .entry)) layout (now (sets .entry)) ⌝ }
 {
     let at = layout.counts;
     let defs = value_at(s, at);
     let after = next_at(s, at);
     let refs = value_at(s, after);
     let rows = layout.rows;
-    let opened = register::open(defs, refs, rows as usize);
-    file_all(s, layout.blobs, rows, opened.register)
+    let opened = register::open(defs, refs, rows as usize, sets);
+    file_all(sets, s, layout.blobs, rows, opened.register)
 }

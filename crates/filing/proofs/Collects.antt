@@ -5,7 +5,7 @@ use mathlib.Core.Path.{_≡_, refl, sym, ap, _∙_}
 use mathlib.Core.List.{List, [], _∷_, _++_}
 use mathlib.Core.Option.{some}
 use mathlib.Core.Bool.{Bool, true, false, cond, _||_, _&&_, or-false, or-assoc}
-use mathlib.Core.Logic.{by-cases}
+use mathlib.Core.Logic.{_⊎_, by-cases}
 use native.Mathlib.Omega.{arith}
 use native.Mathlib.Numerals.{add-one}
 use native.Mathlib.Decide.{decLe}
@@ -21,7 +21,7 @@ use Rattle.grammar.proofs.Bounds.{Ends}
 use Rattle.grammar.proofs.Emits.{length-flat}
 use Rattle.bits.specs.Bits.{at, putBit, zeroed}
 use Rattle.standing.specs.Standing.{any}
-use Rattle.bits.proofs.BitLaws.{at-put, at-put-other, length-put, length-zeroed, at-emptied, at-emptied-other, eqb-same}
+use Rattle.bits.proofs.BitLaws.{at-put, at-put-other, getD-put-out, length-put, length-zeroed, getD-zeroed-out, at-emptied, at-emptied-other, eqb-same}
 use Rattle.standing.proofs.Standings.{any-cong}
 use Rattle.filing.specs.Outcome.{isMod, isModOf, has, namesRow}
 use Rattle.filing.specs.Named.{rowNamed, collected, namedBy}
@@ -99,6 +99,19 @@ module _ (w : ℕ) (t : List ℕ) (i : ℕ) (m : List ℕ) where
   unfolding collected
   at-collected-other j zero s ne hs = refl
   at-collected-other j (suc n) s ne hs = other-next j n s ne hs (eqb (rowNamed w t n) 0) refl ∙ at-collected-other j n s ne hs
+
+  out-next : (p n : ℕ) → (p < i * w) ⊎ (i * w + w ≤ p) → (b : Bool) → eqb (rowNamed w t n) 0 ≡ b
+      → getD (cond b (collected w t n i m) (putBit w (collected w t n i m) i (rowNamed w t n - 1))) p 0 ≡ getD (collected w t n i m) p 0
+  out-next p n h true e = refl
+  out-next p n h false e =
+      let nz = eqb-false (rowNamed w t n) 0 e in
+      getD-put-out w (collected w t n i m) i (rowNamed w t n - 1) p (omega (arith, row-le w t n)) h
+
+  -- a word out of row i keeps its number
+  getD-collected-out : (p n : ℕ) → (p < i * w) ⊎ (i * w + w ≤ p) → getD (collected w t n i m) p 0 ≡ getD m p 0
+  unfolding collected
+  getD-collected-out p zero h = refl
+  getD-collected-out p (suc n) h = out-next p n h (eqb (rowNamed w t n) 0) refl ∙ getD-collected-out p n h
 
 -- only the first n records count
 pub collected-cong : (w : ℕ) (t u : List ℕ) (i : ℕ) (m : List ℕ) (n : ℕ) → ((k : ℕ) → k < n → rowNamed w t k ≡ rowNamed w u k)
@@ -185,3 +198,9 @@ module _ (w i : ℕ) (m : List ℕ) where
   unfolding namedBy
   at-named-other (fault code place) j s ne hs = at-emptied-other w m i j s ne hs
   at-named-other (done a n rs) j s ne hs = at-collected-other w (flat rs) i (zeroed m (i * w) w) j n s ne hs ∙ at-emptied-other w m i j s ne hs
+
+  -- and no word out of row i is written
+  pub getD-named-out : (o : Out) (p : ℕ) → (p < i * w) ⊎ (i * w + w ≤ p) → getD (namedBy w o i m) p 0 ≡ getD m p 0
+  unfolding namedBy
+  getD-named-out (fault code place) p h = getD-zeroed-out m (i * w) w p h
+  getD-named-out (done a n rs) p h = getD-collected-out w (flat rs) i (zeroed m (i * w) w) p n h ∙ getD-zeroed-out m (i * w) w p h

@@ -7,7 +7,7 @@ use mathlib.Core.Path.{_≡_, refl, ap, _∙_}
 use mathlib.Core.List.{List, _++_}
 use lib.ListN.{length, drop, replicate, length-replicate}
 use Rattle.number.specs.declared.token.Counts.{Counts}
-use Rattle.grammar.specs.Limits.{maxNodes}
+use Rattle.grammar.specs.Limits.{maxBytes, maxNodes}
 use Rattle.grammar.specs.Table.{flat}
 use Rattle.grammar.specs.Judge.{Out, fault, done, judge, reading}
 use Rattle.grammar.proofs.Sound.{Holds, holds}
@@ -58,6 +58,12 @@ kept-nodes r (fault code place) f h a z =
     absurd (omega arith)
 kept-nodes r (done at n rs) f (holds h) a z = let k : r .place ≡ n = ap (λ (x : Answer). x .place) a in omega (arith, h)
 
+kept-small : (r : Answer) (o : Out) → ((c p : ℕ) → o ≡ fault c p → (c ≤ 13) × (p ≤ maxBytes)) → r ≡ answerOf o → (r .code ≡ 0 → ⊥)
+    → (r .code ≤ 13) × (r .place ≤ maxBytes)
+unfolding answerOf
+kept-small r (fault code place) f a z = rw a (f code place refl)
+kept-small r (done at n rs) f a z = absurd (z (ap (λ (x : Answer). x .code) a))
+
 -- the table that is lent to the reader
 abbrev lent : List ℕ
 lent = replicate tableSize 0
@@ -70,6 +76,10 @@ module _ (counts : Counts) (s t : List ℕ) (r : Answer)
 
   refuses : (c p : ℕ) → judge 0 counts s ≡ fault c p → 1 ≤ c
   refuses c p e = judge-refuses 0 counts s c p e .0 .0
+
+  -- a refusal's number and place are kept in 8 and 16 bits
+  pub row-small : (r .code ≡ 0 → ⊥) → (r .code ≤ 13) × (r .place ≤ maxBytes)
+  row-small z = kept-small r (judge 0 counts s) (λ c p e. let q = judge-refuses 0 counts s c p e in (q .0 .1, q .2)) (x .0 ∙ ap answerOf same) z
 
   pub row-nodes : r .code ≡ 0 → r .place ≤ maxNodes
   row-nodes z = kept-nodes r (judge 0 counts s) refuses (ends-judge 0 counts s) (x .0 ∙ ap answerOf same) z

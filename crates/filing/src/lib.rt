@@ -3,33 +3,31 @@ ghost use mathlib.Core.Path.{_≡_};
 ghost use Prim.Native.Nat.{_+_, _*_, _≤_};
 ghost use lib.ListN.{length};
 ghost use Rattle.grammar.specs.Judge.{judge};
-ghost use Rattle.filing.specs.Size.{words};
+ghost use Rattle.answer.specs.Size.{words};
 ghost use Rattle.filing.specs.Kept.{findingOf};
 ghost use Rattle.filing.specs.Named.{namedBy};
+use answer::WORDS;
 use grammar::MAX_NODES;
 use number::token::Counts;
 
 mod named;
-
-// The words of 32 bits that hold a row's set of rows.
-pub const WORDS: usize = 2;
 
 // The numbers of a node table that has a record for every node.
 const TABLE: usize = 6 * MAX_NODES;
 
 // What is kept of a judged blob beside its set of rows.
 pub struct Finding {
-    pub state: u32,
-    pub code: u32,
-    pub place: usize,
+    pub state: u8,
+    pub code: u8,
+    pub place: u16,
 }
 
-// Judges a blob for row i, whose set of rows is written to `names`.
-pub fn judge_row(names: &mut [u32], i: usize, counts: Counts, blob: &[u8]) -> Finding
-    requires { ⌜ i * words + words ≤ length (now names) ⌝ }
-    ensures { λ r. ⌜ (r ≡ findingOf (judge 0 counts (now (blob .entry)))) × (now (names .exit) ≡ namedBy words (judge 0 counts (now (blob .entry))) i (now (names .entry))) ⌝ }
+// Judges a blob for row i, whose set of rows is written to its words of `sets`.
+pub fn judge_row(sets: &mut [u32], i: usize, counts: Counts, blob: &[u8]) -> Finding
+    requires { ⌜ i * words + words ≤ length (now sets) ⌝ }
+    ensures { λ r. ⌜ (r ≡ findingOf (judge 0 counts (now (blob .entry)))) × (now (sets .exit) ≡ namedBy words (judge 0 counts (now (blob .entry))) i (now (sets .entry))) ⌝ }
 {
-    bits::empty(names, WORDS, i);
+    bits::clear(sets, i * WORDS, WORDS);
     let mut table = [0u32; TABLE];
     let answer = reader::read(0, counts, blob, &mut table);
     let code = answer.code;
@@ -37,11 +35,11 @@ pub fn judge_row(names: &mut [u32], i: usize, counts: Counts, blob: &[u8]) -> Fi
     if code != 0 {
         return Finding {
             state: 1,
-            code,
-            place,
+            code: code as u8,
+            place: place as u16,
         };
     }
-    named::collect(names, WORDS, i, &table, place);
+    named::collect(sets, WORDS, i, &table, place);
     Finding {
         state: 2,
         code: 0,

@@ -22,8 +22,8 @@ fn standing(n: u32) {
     }
 }
 
-pub fn open(defs: u32, refs: u32, rows: usize) -> Register {
-    let c = register::open(defs, refs, rows);
+pub fn open(defs: u32, refs: u32, rows: usize, sets: &mut [u32]) -> Register {
+    let c = register::open(defs, refs, rows, sets);
     text(b"open");
     decimal(rows as u64);
     text(b":");
@@ -32,8 +32,8 @@ pub fn open(defs: u32, refs: u32, rows: usize) -> Register {
     c.register
 }
 
-pub fn file(g: Register, row: usize, blob: &[u8]) -> Register {
-    let c = register::file(g, row, blob);
+pub fn file(g: Register, row: usize, blob: &[u8], sets: &mut [u32]) -> Register {
+    let c = register::file(g, row, blob, sets);
     text(b"file");
     decimal(row as u64);
     text(b":");
@@ -42,8 +42,8 @@ pub fn file(g: Register, row: usize, blob: &[u8]) -> Register {
     c.register
 }
 
-pub fn acknowledge(g: Register, row: usize) -> Register {
-    let c = register::acknowledge(g, row);
+pub fn acknowledge(g: Register, row: usize, sets: &[u32]) -> Register {
+    let c = register::acknowledge(g, row, sets);
     text(b"acknowledge");
     decimal(row as u64);
     text(b":");
@@ -53,8 +53,8 @@ pub fn acknowledge(g: Register, row: usize) -> Register {
 }
 
 // The answer, then standing, finding, place and mark.
-pub fn ask(g: Register, row: usize) {
-    let a = register::ask(g, row);
+pub fn ask(g: Register, row: usize, sets: &[u32]) {
+    let a = register::ask(g, row, sets);
     text(b"ask");
     decimal(row as u64);
     text(b":");
@@ -68,4 +68,19 @@ pub fn ask(g: Register, row: usize) {
     decimal(a.place as u64);
     decimal(a.mark as u64);
     text(b"\n");
+}
+
+fn wide(x: u32) -> u64 {
+    x as u64
+}
+
+// One of the numbers lent.
+pub fn word(sets: &[u32], at: usize) {
+    if at < sets.len() {
+        text(b"word");
+        decimal(at as u64);
+        text(b":");
+        decimal(wide(sets[at]));
+        text(b"\n");
+    }
 }

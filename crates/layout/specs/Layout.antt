@@ -18,7 +18,8 @@ use Rattle.layout.specs.declared.Parsed.the-variants.{Refused, Accepted}
 abbrev pub maxSheet : ℕ
 maxSheet = 65536
 
--- the count of section 0, 1 or 2: "2, then TypeDef and TypeRef counts; number of TypeSpec blobs (1 to 64) ..; number of acknowledgements"
+-- the count of section 0, 1 or 2: "2, then TypeDef and TypeRef counts; number of TypeSpec blobs (1 to 64) ..; number of acknowledgements";
+-- document 02, wish 8: "Raise it to 512, in .. the sheet"
 unfoldable pub countOf : ℕ → List ℕ → ℕ → Checked
 countOf i s at = cond (eqb i 0) (countAt 2 2 s at) (cond (eqb i 1) (countAt 1 maxSize s at) (checkedAt s at))
 

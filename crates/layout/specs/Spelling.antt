@@ -28,7 +28,7 @@ lengths [] = []
 lengths (blob ∷ blobs) = length blob ∷ lengths blobs
 
 -- "Compressed numbers, sections in a fixed order, each after its count: 2, then TypeDef and TypeRef counts; number of TypeSpec blobs (1 to 64),
--- each as length and bytes; number of acknowledgements, then rows"
+-- each as length and bytes; number of acknowledgements, then rows"; document 02, wish 8: "Raise it to 512, in .. the sheet"
 pub record Sheet (s : List ℕ) (defs refs : ℕ) (blobs : List (List ℕ)) (acks : List ℕ) : Type 0 where
   pub size : length s ≤ maxSheet
   pub defs-few : defs ≤ maxRows

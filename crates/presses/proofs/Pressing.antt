@@ -7,28 +7,28 @@ use lib.ListN.{length, getD, set, length-set}
 use lib.Dec.{eqb}
 use mathlib.Core.Bool.{Bool, true, false, cond}
 use borrow.Author.Tests.{eq-eqb, ne-eqb, eqb-true}
-use Rattle.answer.specs.Answers.{gate, ackCode}
-use Rattle.answer.proofs.Gates.{Admitted, gate-ok}
+use Rattle.answer.specs.Answers.{rowGate, ackCode}
+use Rattle.answer.proofs.Gates.{InRow, row-ok}
 use Rattle.presses.specs.Presses.{pressCode, pressMarks, pressesMarks}
 
 module _ (standings : List ℕ) (rows : ℕ) (marks : List ℕ) (row : ℕ) where
-  pub press-refused : {no : ℕ} → no ≡ gate rows row → (no ≡ 0 → ⊥) → no ≡ pressCode standings rows marks row
+  pub press-refused : {no : ℕ} → no ≡ rowGate rows row → (no ≡ 0 → ⊥) → no ≡ pressCode standings rows marks row
   unfolding pressCode
   press-refused e ne = rw (← e, ne-eqb _ _ ne)
 
-  pub press-admitted : {no : ℕ} → no ≡ gate rows row → no ≡ 0 → {code : ℕ} → code ≡ ackCode (getD standings (row - 1) 0) (getD marks (row - 1) 0)
+  pub press-admitted : {no : ℕ} → no ≡ rowGate rows row → no ≡ 0 → {code : ℕ} → code ≡ ackCode (getD standings (row - 1) 0) (getD marks (row - 1) 0)
       → code ≡ pressCode standings rows marks row
   unfolding pressCode
   press-admitted e z ec = rw (← e, eq-eqb _ _ z) ec
 
-  code-cases : (b : Bool) (x : ℕ) → eqb (gate rows row) 0 ≡ b → cond b x (gate rows row) ≡ 0 → gate rows row ≡ 0
+  code-cases : (b : Bool) (x : ℕ) → eqb (rowGate rows row) 0 ≡ b → cond b x (rowGate rows row) ≡ 0 → rowGate rows row ≡ 0
   code-cases true x e h = eqb-true _ _ e
   code-cases false x e h = h
 
   -- a press that succeeds names a row of the register
-  pub press-in : {code : ℕ} → code ≡ pressCode standings rows marks row → code ≡ 0 → Admitted rows row
+  pub press-in : {code : ℕ} → code ≡ pressCode standings rows marks row → code ≡ 0 → InRow rows row
   unfolding pressCode
-  press-in e z = gate-ok rows row (code-cases (eqb (gate rows row) 0) _ refl (sym e ∙ z))
+  press-in e z = row-ok rows row (code-cases (eqb (rowGate rows row) 0) _ refl (sym e ∙ z))
 
   pub marks-kept : {code : ℕ} → code ≡ pressCode standings rows marks row → (code ≡ 0 → ⊥) → marks ≡ pressMarks standings rows marks row
   unfolding pressMarks

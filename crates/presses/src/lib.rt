@@ -10,12 +10,12 @@ use number::checked::Checked;
 use text::ack_to;
 
 // 16, 17, 18 or 0.
-fn press_code(standings: &[u32], marks: &[u32], rows: usize, row: u32) -> u32
+fn press_code(standings: &[u8], marks: &[u8], rows: usize, row: u32) -> u32
     requires { ⌜ (rows ≤ length (now standings)) × (rows ≤ length (now marks)) ⌝ }
     ensures { λ r. ⌜ r ≡ pressCode (now (standings .entry)) rows (now (marks .entry)) row ⌝ }
 {
     let n = row as usize;
-    let no = answer::admit(rows, n);
+    let no = answer::row_code(rows, n);
     if no != 0 {
         return no;
     }
@@ -24,7 +24,7 @@ fn press_code(standings: &[u32], marks: &[u32], rows: usize, row: u32) -> u32
 }
 
 // Marks a row, or answers why not.
-fn press(standings: &[u32], marks: &mut [u32], rows: usize, row: u32) -> u32
+fn press(standings: &[u8], marks: &mut [u8], rows: usize, row: u32) -> u32
     requires { ⌜ (rows ≤ length (now standings)) × (rows ≤ length (now marks)) ⌝ }
     ensures { λ r. ⌜ (r ≡ pressCode (now (standings .entry)) rows (now (marks .entry)) row) × (now (marks .exit) ≡ pressMarks (now (standings .entry)) rows (now (marks .entry)) row) ⌝ }
 {
@@ -44,8 +44,8 @@ pub fn acks_to(
     s: &[u8],
     at: usize,
     count: u32,
-    standings: &[u32],
-    marks: &mut [u32],
+    standings: &[u8],
+    marks: &mut [u8],
     rows: usize,
 ) -> usize
     requires { ⌜ (rows ≤ length (now standings)) × (rows ≤ length (now marks)) ⌝ }

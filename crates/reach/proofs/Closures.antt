@@ -1,4 +1,4 @@
--- The steps of the closure: one more word joined, one more row relaxed, one more row closed over.
+-- The steps of the closure: one more word or row copied, one more word joined, one more row relaxed, one more row closed over.
 -- Assumes nothing.
 use Prim.Native.Nat.{ℕ, _+_, _*_, _/_, _%_, _<_, _≤_}
 use mathlib.Core.Path.{_≡_, refl, sym, ap, ap₂, _∙_, subst}
@@ -13,10 +13,41 @@ use lib.Seq.{getD-set-same, getD-set-other}
 use lib.Bits.{bitOr}
 use native.Mathlib.Numerals.{add-one}
 use Rattle.reach.specs.Reach.{thru}
+use Rattle.reach.specs.Closure.{ClosureOf}
 use Rattle.bits.specs.Bits.{at, bit}
-use Rattle.reach.specs.Closing.{Ored, RowRelaxed, Relaxed}
+use Rattle.reach.specs.Closing.{Copied, RowsCopied, Ored, RowRelaxed, Relaxed}
 use Rattle.bits.proofs.BitLaws.{Apart, word-lt, pos-apart, bit-or}
+use Rattle.reach.proofs.Reaching.{thru-cong}
 
+-- ---- a copy
+pub copied-none : (l t : List ℕ) (d s : ℕ) → Copied l t d s 0 l
+copied-none l t d s = record { len = refl; done = λ y h. absurd (omega arith); rest = λ p h. refl }
+
+pub copied-more : {l₀ t l : List ℕ} {d s x : ℕ} (w : ℕ) → Copied l₀ t d s x l → x < w → d + w ≤ length l₀ → Copied l₀ t d s (x + 1) (set l (d + x) (getD t (s + x) 0))
+copied-more {l₀} {t} {l} {d} {s} {x} w o h in-d = record {
+  len = length-set l (d + x) _ ∙ o .len;
+  done = λ y hy. by-cases (ℕ-discrete y x)
+      (λ e. subst (λ (z : ℕ). getD (set l (d + x) (getD t (s + x) 0)) (d + z) 0 ≡ getD t (s + z) 0) (sym e)
+      (getD-set-same l (d + x) (getD t (s + x) 0) 0 (omega (arith, o .len))))
+      (λ ne. getD-set-other l (d + x) (d + y) _ 0 (omega arith) ∙ o .done y (omega arith));
+  rest = λ p hp. getD-set-other l (d + x) p _ 0 (⊎-elim (λ a. omega arith) (λ a. omega arith) hp)
+      ∙ o .rest p (⊎-elim (λ a. inl a) (λ a. inr (omega arith)) hp);
+}
+
+pub rows-copied-none : (w v : ℕ) (l t : List ℕ) → RowsCopied w v l t 0 l
+rows-copied-none w v l t = record { len = refl; done = λ r s h hs. absurd (omega arith) }
+
+pub rows-copied-more : {w v i : ℕ} {l₀ t l l′ : List ℕ} → RowsCopied w v l₀ t i l → Copied l t (i * w) (i * v) w l′ → RowsCopied w v l₀ t (i + 1) l′
+unfolding at
+rows-copied-more {w} {v} {i} {l₀} {t} {l} {l′} a b = record {
+  len = b .len ∙ a .len;
+  done = λ r s h hs. by-cases (ℕ-discrete r i)
+      (λ (e : r ≡ i). subst (λ (x : ℕ). bit (getD l′ (x * w + s / 32) 0) (s % 32) ≡ bit (getD t (x * v + s / 32) 0) (s % 32)) (sym e)
+      (ap (λ (x : ℕ). bit x (s % 32)) (b .done (s / 32) (word-lt hs))))
+      (λ ne. ap (λ (x : ℕ). bit x (s % 32)) (b .rest (r * w + s / 32) (pos-apart w r i (s / 32) ne (word-lt hs))) ∙ a .done r s (omega arith) hs);
+}
+
+-- ---- a join
 pub ored-none : (l : List ℕ) (d s : ℕ) → Ored l d s 0 l
 ored-none l d s = record { len = refl; done = λ y h. absurd (omega arith); rest = λ p h. refl }
 
@@ -101,3 +132,8 @@ pub closed-more : (w n k : ℕ) (l₀ l l′ : List ℕ) → n ≤ 32 * w → k 
 unfolding thru
 closed-more w n k l₀ l l′ nw hk c x r s hr hs =
     rw add-one (x .done r s hr hs ∙ rw (c r s hr hs, c r k hr (omega arith), c k s hk hs))
+
+-- a copy of the n rows, closed
+pub closure-of : (w v n : ℕ) (sets l₀ l m : List ℕ) → n ≤ 32 * w → RowsCopied w v l₀ sets n l → Closed w n l n m → ClosureOf w v n sets m
+closure-of w v n sets l₀ l m nw h c r s hr hs =
+    c r s hr (omega arith) ∙ thru-cong n (at w l) (at v sets) (λ i j hi hj. h .done i j hi (omega arith)) n (le-refl n) r s hr hs

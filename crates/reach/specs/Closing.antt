@@ -1,4 +1,4 @@
--- What the steps of the closure leave of a table. Internal: the contract of `close` goes by `thru`.
+-- What the steps of the closure leave of a table. Internal: the contract of `closure` goes by `thru`.
 use Prim.Native.Nat.{ℕ, _+_, _*_, _<_, _≤_}
 use mathlib.Core.Path.{_≡_}
 use mathlib.Core.List.{List}
@@ -7,6 +7,17 @@ use mathlib.Core.Logic.{_⊎_}
 use lib.ListN.{length, getD}
 use lib.Bits.{bitOr}
 use Rattle.bits.specs.Bits.{at}
+
+-- l is l₀ with the first x words of t from s on in the places from d on
+pub record Copied (l₀ t : List ℕ) (d s x : ℕ) (l : List ℕ) : Type 0 where
+  pub len : length l ≡ length l₀
+  pub done : (y : ℕ) → y < x → getD l (d + y) 0 ≡ getD t (s + y) 0
+  pub rest : (p : ℕ) → (p < d) ⊎ (d + x ≤ p) → getD l p 0 ≡ getD l₀ p 0
+
+-- l is as long as l₀, and its first i rows, w words to a row, have the bits of those of t, v to a row
+pub record RowsCopied (w v : ℕ) (l₀ t : List ℕ) (i : ℕ) (l : List ℕ) : Type 0 where
+  pub len : length l ≡ length l₀
+  pub done : (r s : ℕ) → r < i → s < 32 * w → at w l r s ≡ at v t r s
 
 -- l is l₀ with its first x words from d on joined with those from s on
 pub record Ored (l₀ : List ℕ) (d s x : ℕ) (l : List ℕ) : Type 0 where

@@ -1,11 +1,12 @@
-// Reaching: a table of references, kept as bits, is closed in place. For any number of rows.
+// Reaching: a table of references, kept as bits, is copied and the copy is closed. For any number of rows.
 ghost use mathlib.Core.Path.{_≡_};
 ghost use mathlib.Core.Logic.{_⊎_};
 ghost use Prim.Native.Nat.{ℕ, _+_, _*_, _≤_, _<_};
 ghost use lib.ListN.{length};
 ghost use Rattle.bits.specs.Bits.{at};
 ghost use Rattle.reach.specs.Reach.{thru};
-ghost use Rattle.reach.specs.Closing.{Ored, RowRelaxed, Relaxed};
+ghost use Rattle.reach.specs.Closure.{ClosureOf};
+ghost use Rattle.reach.specs.Closing.{Copied, RowsCopied, Ored, RowRelaxed, Relaxed};
 use bits::get;
 
 // Words d.. get those of s.. too; the two runs do not overlap.
@@ -42,11 +43,40 @@ fn relax(m: &mut [u32], n: usize, w: usize, k: usize)
 }
 
 // The table becomes that of reaching.
-pub fn close(m: &mut [u32], n: usize, w: usize)
+fn close(m: &mut [u32], n: usize, w: usize)
     requires { ⌜ (n * w ≤ length (now m)) × (n ≤ 32 * w) ⌝ }
     ensures { λ _. ⌜ ((r s : ℕ) → r < n → s < 32 * w → at w (now (m .exit)) r s ≡ thru (at w (now (m .entry))) n r s) ⌝ }
 {
     for k in 0..n {
         relax(m, n, w, k);
     }
+}
+
+// Words d.. become those of s.. of another table.
+fn copy_words(m: &mut [u32], from: &[u32], d: usize, s: usize, w: usize)
+    requires { ⌜ (d + w ≤ length (now m)) × (s + w ≤ length (now from)) ⌝ }
+    ensures { λ _. ⌜ Copied (now (m .entry)) (now (from .entry)) d s w (now (m .exit)) ⌝ }
+{
+    for x in 0..w {
+        m[d + x] = from[s + x];
+    }
+}
+
+// The first n rows become those of a table with more words to a row, or as many.
+fn copy_rows(m: &mut [u32], w: usize, from: &[u32], v: usize, n: usize)
+    requires { ⌜ (n * w ≤ length (now m)) × (n * v ≤ length (now from)) × (w ≤ v) ⌝ }
+    ensures { λ _. ⌜ RowsCopied w v (now (m .entry)) (now (from .entry)) n (now (m .exit)) ⌝ }
+{
+    for r in 0..n {
+        copy_words(m, from, r * w, r * v, w);
+    }
+}
+
+// m becomes the table, w words to a row, of what the first n rows of `sets`, v words to a row, reach among themselves.
+pub fn closure(m: &mut [u32], w: usize, sets: &[u32], v: usize, n: usize)
+    requires { ⌜ (n * w ≤ length (now m)) × (n * v ≤ length (now sets)) × (w ≤ v) × (n ≤ 32 * w) ⌝ }
+    ensures { λ _. ⌜ ClosureOf w v n (now (sets .entry)) (now (m .exit)) ⌝ }
+{
+    copy_rows(m, w, sets, v, n);
+    close(m, n, w);
 }

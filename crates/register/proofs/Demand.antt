@@ -1,34 +1,34 @@
--- Demand 3: the theorem. For every opening and every list of calls, what `Demand3` (specs/Demand.antt) states.
+-- Demand 3: the theorem. For every opening, every list of numbers lent to it and every list of calls, what `Demand3` (specs/Demand.antt) states.
 -- Assumes nothing.
 use Prim.Native.Nat.{ℕ, _-_, _≤_}
 use mathlib.Core.Path.{_≡_, refl, sym, ap, _∙_}
 use mathlib.Core.List.{List}
 use mathlib.Core.Bool.{Bool, true, false, cond}
+use lib.ListN.{length}
 use lib.Dec.{eqb}
 use borrow.Author.Tests.{eqb-true, eqb-false}
-use Rattle.register.specs.declared.Register.{Register}
 use Rattle.answer.specs.declared.Asked.{Asked}
-use Rattle.register.specs.Calls.{askOf}
+use Rattle.register.specs.Calls.{Held}
 use Rattle.register.specs.Model.{Model, Call, filing, acknowledging, asking, report, standingM, gateM, answerM}
-use Rattle.register.specs.Demand.{reportOf, answerR, butMark, afterR, afterM, Demand3}
-use Rattle.register.proofs.Simulation.{Sim, step, run, open-sim}
+use Rattle.register.specs.Demand.{asks, reportOf, answerR, butMark, afterR, afterM, Demand3}
+use Rattle.register.proofs.Simulation.{SimH, step, run, open-sim}
 use Rattle.register.proofs.FreshChecks.{stands}
 use Rattle.register.proofs.Histories.{marks-by-history, filing-alters, ack-alters, ack-but, gateM-ok, rowOf}
 
-module _ (defs refs rows : ℕ) (cs : List Call) where
-  -- the register and the model after the calls
-  abbrev g′ : Register
-  g′ = afterR defs refs rows cs
+module _ (defs refs rows : ℕ) (sets : List ℕ) (cs : List Call) where
+  -- the register with its numbers, and the model, after the calls
+  abbrev g′ : Held
+  g′ = afterR defs refs rows sets cs
 
   abbrev b′ : Model
-  b′ = afterM defs refs rows cs
+  b′ = afterM defs refs rows sets cs
 
-  sim : Sim b′ g′
-  sim = run cs (open-sim defs refs rows .1) .1
+  sim : SimH b′ g′
+  sim = run cs (open-sim defs refs rows sets .1) .1
 
-  asks : {b : Model} {g : Register} → Sim b g → (q : ℕ) → reportOf (askOf g q) ≡ answerM b (asking q)
+  same : {b : Model} {h : Held} → SimH b h → (q : ℕ) → reportOf (asks h q) ≡ answerM b (asking q)
   unfolding answerR
-  asks m q = step m (asking q) .0
+  same m q = step m (asking q) .0
 
   asked : (a : Asked) (b : Model) (q : ℕ) → reportOf a ≡ answerM b (asking q) → a .code ≡ 0 → (1 ≤ q) × (reportOf a ≡ rowOf b (q - 1))
   unfolding answerM
@@ -39,21 +39,21 @@ module _ (defs refs rows : ℕ) (cs : List Call) where
       go true h r = (gateM-ok b q (eqb-true (gateM b q) 0 h) .0, r)
       go false h r = absurd (eqb-false (gateM b q) 0 h (let y : a .code ≡ gateM b q = cc in sym y ∙ z))
 
-  pub demand-3 : Demand3 defs refs rows cs
+  pub demand-3 : Demand3 defs refs rows sets cs
   demand-3 = record {
-    opening = open-sim defs refs rows .0;
-    answers = run cs (open-sim defs refs rows .1) .0;
-    afterwards = asks sim;
+    opening = open-sim defs refs rows sets .0;
+    answers = run cs (open-sim defs refs rows sets .1) .0;
+    afterwards = same sim;
     standing = λ q z.
-        let r = asked (askOf g′ q) b′ q (asks sim q) z .1 in
-        let e : askOf g′ q .standing ≡ standingM b′ (q - 1) = cc in
+        let r = asked (asks g′ q) b′ q (same sim q) z .1 in
+        let e : asks g′ q .standing ≡ standingM b′ (q - 1) = cc in
         rw e (stands b′ (q - 1));
     mark = λ q z.
-        let x = asked (askOf g′ q) b′ q (asks sim q) z in
+        let x = asked (asks g′ q) b′ q (same sim q) z in
         let r = x .1 in
-        let e : askOf g′ q .mark ≡ b′ .mark (q - 1) = cc in
-        rw e (marks-by-history defs refs rows q (x .0) cs);
-    filing-other = λ row blob q ne nr. asks sim q ∙ filing-alters b′ row blob q ne nr ∙ sym (asks (step sim (filing row blob) .1) q);
-    acknowledging-other = λ row q ne. asks sim q ∙ ack-alters b′ row q ne ∙ sym (asks (step sim (acknowledging row) .1) q);
-    acknowledging-same = λ row q. ap butMark (asks sim q) ∙ ack-but b′ row q ∙ sym (ap butMark (asks (step sim (acknowledging row) .1) q));
+        let e : asks g′ q .mark ≡ b′ .mark (q - 1) = cc in
+        rw e (marks-by-history defs refs rows (length sets) q (x .0) cs);
+    filing-other = λ row blob q ne nr. same sim q ∙ filing-alters b′ row blob q ne nr ∙ sym (same (step sim (filing row blob) .1) q);
+    acknowledging-other = λ row q ne. same sim q ∙ ack-alters b′ row q ne ∙ sym (same (step sim (acknowledging row) .1) q);
+    acknowledging-same = λ row q. ap butMark (same sim q) ∙ ack-but b′ row q ∙ sym (ap butMark (same (step sim (acknowledging row) .1) q));
   }

@@ -12,6 +12,8 @@ use lib.Dec.{ltb, eqb}
 use borrow.Author.Tests.{eq-eqb, ne-eqb, eqb-true, eqb-false, ltb-false}
 use Rattle.reach.specs.Reach.{Reach}
 use Rattle.reach.proofs.Bools.{or-left, or-right}
+use Rattle.answer.specs.Answers.{rowGate}
+use Rattle.answer.proofs.Gates.{row-ok}
 use Rattle.grammar.specs.Judge.{Out}
 use Rattle.filing.specs.Outcome.{codeOf, placeOf}
 use Rattle.register.specs.Model.{Model, Call, filing, acknowledging, asking, Answer, number, report, outcome, refersM, standingM, touched, gateM, filedM, markedM, ackM, answerM, nextM, endM, emptyM, openingM, openedM}
@@ -21,13 +23,8 @@ use Rattle.register.proofs.FreshChecks.{reaches, outcome-other, standin
 
 -- ---- calls
 pub gateM-ok : (b : Model) (row : ℕ) → gateM b row ≡ 0 → (1 ≤ row) × (row ≤ b .rows)
-unfolding gateM
-gateM-ok b row h = go (eqb row 0) (ltb (b .rows) row) refl refl h
-  where
-    go : (s t : Bool) → eqb row 0 ≡ s → ltb (b .rows) row ≡ t → _≡_ {A = ℕ} (cond (s || t) 16 0) 0 → (1 ≤ row) × (row ≤ b .rows)
-    go true t p q z = absurd (omega arith)
-    go false true p q z = absurd (omega arith)
-    go false false p q z = let ne : row ≡ 0 → ⊥ = eqb-false row 0 p in (omega arith, ltb-false (b .rows) row q)
+unfolding gateM rowGate
+gateM-ok b row h = let r = row-ok (b .rows) row h in (r .low, r .high)
 
 module _ (b : Model) where
   file-yes : (row : ℕ) (blob : List ℕ) → eqb (gateM b row) 0 ≡ true → nextM b (filing row blob) ≡ filedM b (row - 1) (some blob)
@@ -163,20 +160,20 @@ module _ (q : ℕ) (hq : 1 ≤ q) where
       (marked-from (nextM b c) cs h)
 
 -- ---- the corollaries of demand 3, on the model
-no-marks : (defs refs rows i : ℕ) → openedM defs refs rows .mark i ≡ 0
+no-marks : (defs refs rows lent i : ℕ) → openedM defs refs rows lent .mark i ≡ 0
 unfolding openedM
-no-marks defs refs rows i = go (eqb (openingM defs refs rows) 0)
+no-marks defs refs rows lent i = go (eqb (openingM defs refs rows lent) 0)
   where
     go : (t : Bool) → cond t (emptyM defs refs rows) (emptyM 0 0 0) .mark i ≡ 0
     go true = refl
     go false = refl
 
 -- a row carries a mark exactly when an acknowledging on it succeeded and since then neither it nor any row it could reach was filed
-pub marks-by-history : (defs refs rows q : ℕ) → 1 ≤ q → (cs : List Call)
-    → (endM (openedM defs refs rows) cs .mark (q - 1) ≡ 0 → ⊥) ↔ Marked q (openedM defs refs rows) cs
-marks-by-history defs refs rows q hq cs = (
-  λ h. ⊎-elim (λ m. m) (λ p. absurd (p .0 (no-marks defs refs rows (q - 1)))) (marked-from q hq (openedM defs refs rows) cs h),
-  marked-marked q hq (openedM defs refs rows) cs,
+pub marks-by-history : (defs refs rows lent q : ℕ) → 1 ≤ q → (cs : List Call)
+    → (endM (openedM defs refs rows lent) cs .mark (q - 1) ≡ 0 → ⊥) ↔ Marked q (openedM defs refs rows lent) cs
+marks-by-history defs refs rows lent q hq cs = (
+  λ h. ⊎-elim (λ m. m) (λ p. absurd (p .0 (no-marks defs refs rows lent (q - 1)))) (marked-from q hq (openedM defs refs rows lent) cs h),
+  marked-marked q hq (openedM defs refs rows lent) cs,
 )
 
 abbrev pub rowOf : Model → ℕ → Answer

@@ -1,38 +1,41 @@
--- The standings, and the marks that `marks_after` gives, where m is the closed table of the names kept.
+-- The ways out of `standings`, and of `marks_after` where there is no mark.
 -- Assumes nothing.
 use Prim.Native.Nat.{ℕ, _*_, _<_, _≤_}
-use mathlib.Core.Path.{_≡_, _∙_}
+use mathlib.Core.Path.{_≡_, sym, _∙_}
 use mathlib.Core.List.{List}
-use lib.ListN.{getD, replicate, length-replicate}
+use mathlib.Core.Bool.{true, false, _||_}
+use lib.ListN.{length, getD, replicate, length-replicate}
+use lib.Dec.{ltb}
 use native.Mathlib.Omega.{arith}
 use borrow.Author.Tests.{lt-ltb, le-ltb}
-use Rattle.reach.specs.Reach.{thru}
-use Rattle.bits.specs.Bits.{at}
-use Rattle.standing.specs.Standing.{cleared, filled, losesIn, standingIn}
-use Rattle.standing.proofs.Standings.{standing-in, loses-in, filled-cong, getD-filled}
-use Rattle.filing.specs.Size.{words}
-use Rattle.answer.specs.Size.{maxSize}
+use Rattle.reach.proofs.Bools.{or-right}
+use Rattle.standing.specs.Standing.{any, filled, markedIn}
+use Rattle.standing.proofs.Standings.{cleared-unmarked, getD-filled}
+use Rattle.answer.specs.Size.{maxSize, words}
 use Rattle.register.specs.Calls.{marksAfter, standingOf, standingsOf}
 use Rattle.register.specs.declared.Register.{Register}
 
-pub standings-all : (g : Register) → g .rows ≤ maxSize → (m all : List ℕ)
-    → ((r s : ℕ) → r < g .rows → s < 32 * words → at words m r s ≡ thru (at words (g .names)) (g .rows) r s)
-    → all ≡ filled (replicate maxSize 0) (g .rows) (standingIn words m (g .states) (g .rows)) → all ≡ standingsOf g
-unfolding standingsOf
-standings-all g le m all closed e =
-    rw (le-ltb maxSize (g .rows) le) (e ∙ filled-cong _ (g .rows) _ _ (λ i hi. standing-in words (g .rows) (g .names) m (g .states) le closed i hi))
+module _ (g : Register) (l : List ℕ) where
+  pub standings-above : maxSize < g .rows → replicate maxSize 0 ≡ standingsOf g l
+  unfolding standingsOf
+  standings-above h = rw (lt-ltb _ _ h)
 
-pub standings-above : (g : Register) → maxSize < g .rows → replicate maxSize 0 ≡ standingsOf g
-unfolding standingsOf
-standings-above g h = rw (lt-ltb _ _ h)
+  pub standings-few : length l < g .rows * words → replicate maxSize 0 ≡ standingsOf g l
+  unfolding standingsOf
+  standings-few h = let e : (ltb maxSize (g .rows) || ltb (length l) (g .rows * words)) ≡ true = or-right (ltb maxSize (g .rows)) (lt-ltb _ _ h) in rw e
 
--- the standing of a row among them
-pub standings-at : (g : Register) → g .rows ≤ maxSize → (i : ℕ) → i < g .rows → getD (standingsOf g) i 0 ≡ standingOf g i
-unfolding standingsOf
-standings-at g le i hi = rw (le-ltb maxSize (g .rows) le) (getD-filled (replicate maxSize 0) (g .rows) (standingOf g) i hi (omega (arith, length-replicate {A = ℕ} maxSize 0)))
+  module _ (le : g .rows ≤ maxSize) (enough : g .rows * words ≤ length l) where
+    pub standings-all : (all : List ℕ) → all ≡ filled (replicate maxSize 0) (g .rows) (λ i. standingOf g i l) → all ≡ standingsOf g l
+    unfolding standingsOf
+    standings-all all e = rw (le-ltb maxSize (g .rows) le, le-ltb (length l) (g .rows * words) enough) e
 
-pub marks-left : (g : Register) (i : ℕ) (m marks : List ℕ) → g .rows ≤ maxSize → i < g .rows
-    → ((r s : ℕ) → r < g .rows → s < 32 * words → at words m r s ≡ thru (at words (g .names)) (g .rows) r s)
-    → marks ≡ cleared (g .marks) (g .rows) (losesIn words m i) → marks ≡ marksAfter g i
-unfolding marksAfter
-marks-left g i m marks le hi closed e = e ∙ loses-in words (g .rows) (g .names) m (g .states) le closed i hi (g .marks)
+    -- the standing of a row among them
+    pub standings-at : (i : ℕ) → i < g .rows → getD (standingsOf g l) i 0 ≡ standingOf g i l
+    unfolding standingsOf
+    standings-at i hi =
+        rw (le-ltb maxSize (g .rows) le, le-ltb (length l) (g .rows * words) enough)
+        (getD-filled (replicate maxSize 0) (g .rows) (λ j. standingOf g j l) i hi (omega (arith, length-replicate {A = ℕ} maxSize 0)))
+
+  pub marks-none : (i : ℕ) → any (g .rows) (markedIn (g .marks)) ≡ false → g .marks ≡ marksAfter g i l
+  unfolding marksAfter
+  marks-none i h = sym (cleared-unmarked (g .marks) (g .rows) _ h)

@@ -1,168 +1,185 @@
--- The register follows the model, call by call: `Sim` holds of what an opening hands back, and every call keeps it.
+-- The register, with the numbers lent to it, follows the model, call by call: `Sim` holds of what an opening hands back, and every call keeps it.
 -- Assumes nothing.
-use Prim.Native.Nat.{ℕ, _+_, _-_, _*_, _/_, _%_, _<_, _≤_}
-use mathlib.Core.Path.{_≡_, refl, sym, ap, _∙_, subst, subst₂}
+use Prim.Native.Nat.{ℕ, _+_, _-_, _*_, _<_, _≤_}
+use mathlib.Core.Path.{_≡_, refl, sym, ap, _∙_, subst}
 use mathlib.Core.List.{List, [], _∷_}
 use mathlib.Core.Option.{Option, none, some}
-use mathlib.Core.Bool.{Bool, true, false, cond, _||_, true≢false}
+use mathlib.Core.Bool.{Bool, true, false, cond, _||_}
 use mathlib.Core.Logic.{by-cases}
 use native.Mathlib.Omega.{arith}
 use native.Mathlib.Decide.{ℕ-discrete, decLt}
 use native.Mathlib.Nat.{le-refl}
 use lib.ListN.{length, getD, set, replicate, length-set, length-replicate, getD-replicate, List·getD-eq-default}
 use lib.Seq.{getD-set-same, getD-set-other}
-use lib.Dec.{ltb, eqb}
-use borrow.Author.Tests.{le-ltb, eq-eqb, ne-eqb, ltb-false, eqb-true}
+use lib.Dec.{eqb}
+use borrow.Author.Tests.{eq-eqb, ne-eqb, eqb-true}
 use Rattle.reach.specs.Reach.{thru}
-use Rattle.bits.specs.Bits.{at, bit}
+use Rattle.bits.specs.Bits.{at, zeroed}
 use Rattle.standing.specs.Standing.{standing}
-use Rattle.bits.proofs.BitLaws.{zero-bit}
+use Rattle.bits.proofs.BitLaws.{length-zeroed, at-zeroed}
 use Rattle.reach.proofs.Reaching.{thru-cong}
 use Rattle.standing.proofs.Standings.{standing-cong, length-cleared, getD-cleared}
-use Rattle.grammar.specs.Limits.{maxRows}
 use Rattle.grammar.specs.Judge.{Out, fault, done}
 use Rattle.grammar.proofs.Bounds.{ends-judge}
 use Rattle.register.specs.declared.Register.{Register}
 use Rattle.register.specs.declared.Changed.{Changed}
-use Rattle.filing.specs.Size.{words}
-use Rattle.answer.specs.Size.{maxSize}
-use Rattle.answer.specs.Answers.{gate, ackCode}
+use Rattle.answer.specs.Size.{maxSize, words}
+use Rattle.answer.specs.Answers.{rowGate, gate, ackCode}
 use Rattle.filing.specs.Outcome.{judged, stateOf, codeOf, placeOf, namesRow}
-use Rattle.register.specs.Calls.{blank, changed, openOf, filed, fileOf, marksAfter, marked, ackAt, ackOf, askAt, askOf, standingOf, refers}
+use Rattle.register.specs.Calls.{Held, held, Left, left, blank, changed, openCode, openOf, filed, filedSets, filedAt, fileOf, marksAfter, marked, ackAt, ackOf, askAt, askOf, standingOf, refers}
 use Rattle.register.specs.Model.{Model, Call, filing, acknowledging, asking, number, report, check, outcome, stateM, refersM, standingM, touched, gateM, filedM, markedM, ackM, answerM, nextM, answersM, endM, emptyM, openingM, openedM}
 use Rattle.register.specs.Demand.{reportOf, answerR, nextR, answersR, endR}
-use Rattle.answer.proofs.Gates.{gate-ok}
+use Rattle.register.proofs.Openings.{open-ok}
+use Rattle.answer.proofs.Gates.{gate-ok, gate-within}
 use Rattle.filing.proofs.Collects.{length-named, at-named, at-named-other}
 
 -- ---- the relation
-pub record RowSim (e : Option Out) (g : Register) (i : ℕ) : Type 0 where
+pub record RowSim (e : Option Out) (g : Register) (l : List ℕ) (i : ℕ) : Type 0 where
   pub state : getD (g .states) i 0 ≡ stateOf e
   pub code : getD (g .codes) i 0 ≡ codeOf e
   pub place : getD (g .places) i 0 ≡ placeOf e
-  pub names : (s : ℕ) → s < maxSize → at words (g .names) i s ≡ namesRow e (s + 1)
+  pub names : (s : ℕ) → s < maxSize → at words l i s ≡ namesRow e (s + 1)
 
 pub record Lengths (g : Register) : Type 0 where
   pub states : length (g .states) ≡ maxSize
   pub codes : length (g .codes) ≡ maxSize
   pub places : length (g .places) ≡ maxSize
   pub marks : length (g .marks) ≡ maxSize
-  pub names : length (g .names) ≡ maxSize * words
 
-pub record Sim (b : Model) (g : Register) : Type 0 where
+-- a register g, with the numbers l lent to it
+pub record Sim (b : Model) (g : Register) (l : List ℕ) : Type 0 where
   pub size : b .rows ≤ maxSize
+  pub enough : b .rows * words ≤ length l
   pub defs : g .defs ≡ b .defs
   pub refs : g .refs ≡ b .refs
   pub rows : g .rows ≡ b .rows
   pub lengths : Lengths g
-  pub row : (i : ℕ) → i < b .rows → RowSim (outcome b i) g i
+  pub row : (i : ℕ) → i < b .rows → RowSim (outcome b i) g l i
   pub mark : (i : ℕ) → i < b .rows → getD (g .marks) i 0 ≡ b .mark i
+
+abbrev pub SimH : Model → Held → Type 0
+SimH b h = Sim b (h .register) (h .sets)
 
 -- ---- a list of zeros
 zeros-at : (n k : ℕ) → _≡_ {A = ℕ} (getD (replicate n 0) k 0) 0
 zeros-at n k = by-cases (decLt k n) (λ (h : k < n). getD-replicate n k 0 0 h)
     (λ nh. List·getD-eq-default (replicate n 0) 0 (omega (arith, length-replicate {A = ℕ} n 0)))
 
-zeros-bit : (n i s : ℕ) → at words (replicate n 0) i s ≡ false
-unfolding at
-zeros-bit n i s = ap (λ (x : ℕ). bit x (s % 32)) (zeros-at n (i * words + s / 32)) ∙ zero-bit (s % 32)
-
-or-none : (a c : Bool) → (a || c) ≡ false → c ≡ false
-or-none true c h = absurd (true≢false h)
-or-none false c h = h
-
 -- ---- an opened register
-blank-sim : (defs refs rows : ℕ) → rows ≤ maxSize → Sim (emptyM defs refs rows) (blank defs refs rows)
-blank-sim defs refs rows h = record {
+blank-lengths : (defs refs rows : ℕ) → Lengths (blank defs refs rows)
+blank-lengths defs refs rows = record { states = refl; codes = refl; places = refl; marks = refl }
+
+blank-sim : (defs refs rows : ℕ) (l : List ℕ) → rows ≤ maxSize → rows * words ≤ length l
+    → Sim (emptyM defs refs rows) (blank defs refs rows) (zeroed l 0 (rows * words))
+blank-sim defs refs rows l h k = record {
   size = h;
+  enough = omega (arith, k, length-zeroed l 0 (rows * words));
   defs = refl;
   refs = refl;
   rows = refl;
-  lengths = record { states = refl; codes = refl; places = refl; marks = refl; names = refl };
-  row = λ i hi. record { state = zeros-at maxSize i; code = zeros-at maxSize i; place = zeros-at maxSize i; names = λ s hs. zeros-bit (maxSize * words) i s };
+  lengths = blank-lengths defs refs rows;
+  row = λ i hi. record { state = zeros-at maxSize i; code = zeros-at maxSize i; place = zeros-at maxSize i; names = λ s hs. at-zeroed words rows l i s k hi hs };
   mark = λ i hi. zeros-at maxSize i;
 }
 
+-- a refused opening: no rows, and any numbers
+none-sim : (l : List ℕ) → Sim (emptyM 0 0 0) (blank 0 0 0) l
+none-sim l = record {
+  size = omega arith;
+  enough = omega arith;
+  defs = refl;
+  refs = refl;
+  rows = refl;
+  lengths = blank-lengths 0 0 0;
+  row = λ i hi. absurd (omega (arith, hi));
+  mark = λ i hi. absurd (omega (arith, hi));
+}
+
 -- ---- one call
-module _ {b : Model} {g : Register} (m : Sim b g) where
-  names-same : (r s : ℕ) → r < g .rows → s < g .rows → refers g r s ≡ refersM b r s
+module _ {b : Model} {g : Register} {l : List ℕ} (m : Sim b g l) where
+  abbrev here : Held
+  here = record { register = g; sets = l }
+
+  names-same : (r s : ℕ) → r < g .rows → s < g .rows → refers l r s ≡ refersM b r s
   names-same r s hr hs = m .row r (omega (arith, m .rows)) .names s (omega (arith, m .rows, m .size))
 
   state-same : (i : ℕ) → i < g .rows → getD (g .states) i 0 ≡ stateM b i
   state-same i hi = m .row i (omega (arith, m .rows)) .state
 
-  standing-same : (i : ℕ) → i < g .rows → standingOf g i ≡ standingM b i
+  standing-same : (i : ℕ) → i < g .rows → standingOf g i l ≡ standingM b i
   standing-same i hi =
-      standing-cong (g .rows) (λ j. getD (g .states) j 0) (stateM b) (refers g) (refersM b) state-same names-same i hi
+      standing-cong (g .rows) (λ j. getD (g .states) j 0) (stateM b) (refers l) (refersM b) state-same names-same i hi
       ∙ ap (λ (n : ℕ). standing n (stateM b) (refersM b) i) (m .rows)
 
-  thru-same : (r s : ℕ) → r < g .rows → s < g .rows → thru (refers g) (g .rows) r s ≡ thru (refersM b) (b .rows) r s
+  thru-same : (r s : ℕ) → r < g .rows → s < g .rows → thru (refers l) (g .rows) r s ≡ thru (refersM b) (b .rows) r s
   thru-same r s hr hs =
-      thru-cong (g .rows) (refers g) (refersM b) names-same (g .rows) (le-refl (g .rows)) r s hr hs
+      thru-cong (g .rows) (refers l) (refersM b) names-same (g .rows) (le-refl (g .rows)) r s hr hs
       ∙ ap (λ (n : ℕ). thru (refersM b) n r s) (m .rows)
 
-  gate-same : (row : ℕ) → gate (g .rows) row ≡ gateM b row
-  unfolding gate gateM
-  gate-same row = rw (m .rows, le-ltb maxSize (b .rows) (m .size))
+  gate-same : (row : ℕ) → gate (length l) (g .rows) row ≡ gateM b row
+  unfolding gateM rowGate
+  gate-same row = rw (m .rows) (gate-within (length l) (b .rows) row (m .size) (m .enough))
 
   judged-same : (blob : List ℕ) → judged (g .defs) (g .refs) (g .rows) blob ≡ judged (b .defs) (b .refs) (b .rows) blob
   judged-same blob = rw (m .defs, m .refs, m .rows)
 
   module _ (i : ℕ) (hi : i < b .rows) where
-    marks-same : (j : ℕ) → j < b .rows → getD (marksAfter g i) j 0 ≡ cond (touched b i j) 0 (b .mark j)
+    marks-same : (j : ℕ) → j < b .rows → getD (marksAfter g i l) j 0 ≡ cond (touched b i j) 0 (b .mark j)
     unfolding marksAfter
     marks-same j hj =
         getD-cleared (g .marks) (g .rows) _ j (omega (arith, m .rows)) (omega (arith, m .rows, m .size, m .lengths .marks))
         ∙ ap (λ (t : Bool). cond (eqb j i || t) 0 (getD (g .marks) j 0)) (thru-same j i (omega (arith, m .rows)) (omega (arith, m .rows)))
         ∙ ap (cond (touched b i j) 0) (m .mark j hj)
 
-    lengths-filed : (o : Out) → Lengths (filed g i o)
+    lengths-filed : (o : Out) → Lengths (filed g i o l)
     unfolding filed marksAfter
     lengths-filed o = record {
       states = length-set (g .states) i _ ∙ m .lengths .states;
       codes = length-set (g .codes) i _ ∙ m .lengths .codes;
       places = length-set (g .places) i _ ∙ m .lengths .places;
       marks = length-cleared (g .marks) (g .rows) _ ∙ m .lengths .marks;
-      names = length-named words i (g .names) o ∙ m .lengths .names;
     }
 
-    row-other : (o : Out) (j : ℕ) → j < b .rows → (j ≡ i → ⊥) → RowSim (outcome b j) (filed g i o) j
+    row-other : (o : Out) (j : ℕ) → j < b .rows → (j ≡ i → ⊥) → RowSim (outcome b j) (filed g i o l) (filedSets i o l) j
     unfolding filed
     row-other o j hj ne = record {
       state = getD-set-other (g .states) i j _ 0 ne ∙ m .row j hj .state;
       code = getD-set-other (g .codes) i j _ 0 ne ∙ m .row j hj .code;
       place = getD-set-other (g .places) i j _ 0 ne ∙ m .row j hj .place;
-      names = λ s hs. at-named-other words i (g .names) o j s ne hs ∙ m .row j hj .names s hs;
+      names = λ s hs. at-named-other words i l o j s ne hs ∙ m .row j hj .names s hs;
     }
 
     -- the filed row itself, as the judge says
-    row-same : (blob : List ℕ) → RowSim (some (judged (b .defs) (b .refs) (b .rows) blob)) (filed g i (judged (b .defs) (b .refs) (b .rows) blob)) i
+    row-same : (blob : List ℕ) → RowSim (some (judged (b .defs) (b .refs) (b .rows) blob)) (filed g i (judged (b .defs) (b .refs) (b .rows) blob) l) (filedSets i (judged (b .defs) (b .refs) (b .rows) blob) l) i
     unfolding filed
     row-same blob = record {
       state = getD-set-same (g .states) i _ 0 (omega (arith, m .size, m .lengths .states));
       code = getD-set-same (g .codes) i _ 0 (omega (arith, m .size, m .lengths .codes));
       place = getD-set-same (g .places) i _ 0 (omega (arith, m .size, m .lengths .places));
-      names = λ s hs. at-named words i (g .names) (judged (b .defs) (b .refs) (b .rows) blob)
-          (ends-judge 0 (record { defs = b .defs; refs = b .refs; specs = b .rows }) blob) s (omega (arith, m .size, m .lengths .names)) hs;
+      names = λ s hs. at-named words i l (judged (b .defs) (b .refs) (b .rows) blob)
+          (ends-judge 0 (record { defs = b .defs; refs = b .refs; specs = b .rows }) blob) s (omega (arith, m .size, m .enough)) hs;
     }
 
-    filed-sim : (blob : List ℕ) → Sim (filedM b i (some blob)) (filed g i (judged (b .defs) (b .refs) (b .rows) blob))
+    filed-sim : (blob : List ℕ) → Sim (filedM b i (some blob)) (filed g i (judged (b .defs) (b .refs) (b .rows) blob) l) (filedSets i (judged (b .defs) (b .refs) (b .rows) blob) l)
     unfolding filedM filed
     filed-sim blob = record {
       size = m .size;
+      enough = omega (arith, m .enough, length-named words i l (judged (b .defs) (b .refs) (b .rows) blob));
       defs = m .defs;
       refs = m .refs;
       rows = m .rows;
       lengths = lengths-filed (judged (b .defs) (b .refs) (b .rows) blob);
       row = λ j hj. by-cases (ℕ-discrete j i)
-          (λ (e : j ≡ i). subst (λ (x : ℕ). RowSim (check (judged (b .defs) (b .refs) (b .rows)) (cond (eqb x i) (some blob) (b .blob x))) (filed g i (judged (b .defs) (b .refs) (b .rows) blob)) x) (sym e) (rw (eq-eqb i i refl) (row-same blob)))
+          (λ (e : j ≡ i). subst (λ (x : ℕ). RowSim (check (judged (b .defs) (b .refs) (b .rows)) (cond (eqb x i) (some blob) (b .blob x))) (filed g i (judged (b .defs) (b .refs) (b .rows) blob) l) (filedSets i (judged (b .defs) (b .refs) (b .rows) blob) l) x) (sym e) (rw (eq-eqb i i refl) (row-same blob)))
           (λ ne. rw (ne-eqb j i ne) (row-other (judged (b .defs) (b .refs) (b .rows) blob) j hj ne));
       mark = λ j hj. marks-same j hj;
     }
 
-    marked-sim : (mark : ℕ) → Sim (markedM b i mark) (marked g i mark)
+    marked-sim : (mark : ℕ) → Sim (markedM b i mark) (marked g i mark) l
     unfolding markedM
     marked-sim mark = record {
       size = m .size;
+      enough = m .enough;
       defs = m .defs;
       refs = m .refs;
       rows = m .rows;
@@ -171,7 +188,6 @@ module _ {b : Model} {g : Register} (m : Sim b g) where
         codes = m .lengths .codes;
         places = m .lengths .places;
         marks = length-set (g .marks) i mark ∙ m .lengths .marks;
-        names = m .lengths .names;
       };
       row = λ j hj. record { state = m .row j hj .state; code = m .row j hj .code; place = m .row j hj .place; names = m .row j hj .names };
       mark = λ j hj. by-cases (ℕ-discrete j i)
@@ -180,49 +196,49 @@ module _ {b : Model} {g : Register} (m : Sim b g) where
           (λ ne. rw (ne-eqb j i ne) (getD-set-other (g .marks) i j mark 0 ne ∙ m .mark j hj));
     }
 
-    ack-same : ackCode (standingOf g i) (getD (g .marks) i 0) ≡ ackM b i
+    ack-same : ackCode (standingOf g i l) (getD (g .marks) i 0) ≡ ackM b i
     unfolding ackM
     ack-same = rw (standing-same i (omega (arith, m .rows)), m .mark i hi)
 
   inside : (row : ℕ) → eqb (gateM b row) 0 ≡ true → row - 1 < b .rows
-  inside row e = let a = gate-ok (g .rows) row (gate-same row ∙ eqb-true (gateM b row) 0 e) in omega (arith, a .low, a .high, m .rows)
+  inside row e = let a = gate-ok (length l) (g .rows) row (gate-same row ∙ eqb-true (gateM b row) 0 e) in omega (arith, a .low, a .high, m .rows)
 
   -- what a call answers and leaves, on both sides
   abbrev pub Step : Call → Type 0
-  Step c = (answerR g c ≡ answerM b c) × Sim (nextM b c) (nextR g c)
+  Step c = (answerR here c ≡ answerM b c) × SimH (nextM b c) (nextR here c)
 
-  file-yes : (row : ℕ) (blob : List ℕ) → eqb (gateM b row) 0 ≡ true → fileOf g row blob ≡ changed 0 (filed g (row - 1) (judged (b .defs) (b .refs) (b .rows) blob))
+  file-yes : (row : ℕ) (blob : List ℕ) → eqb (gateM b row) 0 ≡ true → fileOf g row blob l ≡ filedAt g (row - 1) (judged (b .defs) (b .refs) (b .rows) blob) l
   unfolding fileOf
   file-yes row blob e = rw (gate-same row, e, judged-same blob)
 
-  file-no : (row : ℕ) (blob : List ℕ) → eqb (gateM b row) 0 ≡ false → fileOf g row blob ≡ changed (gateM b row) g
+  file-no : (row : ℕ) (blob : List ℕ) → eqb (gateM b row) 0 ≡ false → fileOf g row blob l ≡ left (changed (gateM b row) g) l
   unfolding fileOf
   file-no row blob e = rw (gate-same row, e)
 
   step-filing : (row : ℕ) (blob : List ℕ) (t : Bool) → eqb (gateM b row) 0 ≡ t → Step (filing row blob)
   unfolding answerR answerM nextR nextM
   step-filing row blob true e = (
-    ap (λ (x : Changed). number (x .code)) (file-yes row blob e) ∙ ap number (sym (eqb-true (gateM b row) 0 e)),
+    ap (λ (x : Left). number (x .changed .code)) (file-yes row blob e) ∙ ap number (sym (eqb-true (gateM b row) 0 e)),
     rw e
-        (subst (λ (x : Changed). Sim (filedM b (row - 1) (some blob)) (x .register)) (sym (file-yes row blob e))
+        (subst (λ (x : Left). SimH (filedM b (row - 1) (some blob)) (held x)) (sym (file-yes row blob e))
         (filed-sim (row - 1) (inside row e) blob)),
   )
   step-filing row blob false e = (
-    ap (λ (x : Changed). number (x .code)) (file-no row blob e),
-    rw e (subst (λ (x : Changed). Sim b (x .register)) (sym (file-no row blob e)) m),
+    ap (λ (x : Left). number (x .changed .code)) (file-no row blob e),
+    rw e (subst (λ (x : Left). SimH b (held x)) (sym (file-no row blob e)) m),
   )
 
   step-at : (i : ℕ) (row : ℕ) (t : Bool) → i < b .rows → eqb (ackM b i) 0 ≡ t
-      → (number (ackAt g i .code) ≡ number (ackM b i)) × Sim (cond t (markedM b i 1) b) (ackAt g i .register)
+      → (number (ackAt g i l .code) ≡ number (ackM b i)) × Sim (cond t (markedM b i 1) b) (ackAt g i l .register) l
   unfolding ackAt
   step-at i row true hi e = rw (ack-same i hi, e) (ap number (sym (eqb-true (ackM b i) 0 e)), marked-sim i hi 1)
   step-at i row false hi e = rw (ack-same i hi, e) (refl, m)
 
-  ack-yes : (row : ℕ) → eqb (gateM b row) 0 ≡ true → ackOf g row ≡ ackAt g (row - 1)
+  ack-yes : (row : ℕ) → eqb (gateM b row) 0 ≡ true → ackOf g row l ≡ ackAt g (row - 1) l
   unfolding ackOf
   ack-yes row e = rw (gate-same row, e)
 
-  ack-no : (row : ℕ) → eqb (gateM b row) 0 ≡ false → ackOf g row ≡ changed (gateM b row) g
+  ack-no : (row : ℕ) → eqb (gateM b row) 0 ≡ false → ackOf g row l ≡ changed (gateM b row) g
   unfolding ackOf
   ack-no row e = rw (gate-same row, e)
 
@@ -232,18 +248,18 @@ module _ {b : Model} {g : Register} (m : Sim b g) where
       let s = step-at (row - 1) row (eqb (ackM b (row - 1)) 0) (inside row e) refl in (
         rw e (ap (λ (x : Changed). number (x .code)) (ack-yes row e) ∙ s .0),
         rw e
-            (subst (λ (x : Changed). Sim (cond (eqb (ackM b (row - 1)) 0) (markedM b (row - 1) 1) b) (x .register)) (sym (ack-yes row e))
+            (subst (λ (x : Changed). Sim (cond (eqb (ackM b (row - 1)) 0) (markedM b (row - 1) 1) b) (x .register) l) (sym (ack-yes row e))
             (s .1)),
       )
   step-acknowledging row false e =
-      (rw e (ap (λ (x : Changed). number (x .code)) (ack-no row e)), rw e (subst (λ (x : Changed). Sim b (x .register)) (sym (ack-no row e)) m))
+      (rw e (ap (λ (x : Changed). number (x .code)) (ack-no row e)), rw e (subst (λ (x : Changed). Sim b (x .register) l) (sym (ack-no row e)) m))
 
-  finding-same : (i : ℕ) (e : Option Out) → RowSim e g i → (cond (eqb (getD (g .states) i 0) 1) (getD (g .codes) i 0) 0 ≡ codeOf e) × (cond (eqb (getD (g .states) i 0) 1) (getD (g .places) i 0) 0 ≡ placeOf e)
+  finding-same : (i : ℕ) (e : Option Out) → RowSim e g l i → (cond (eqb (getD (g .states) i 0) 1) (getD (g .codes) i 0) 0 ≡ codeOf e) × (cond (eqb (getD (g .states) i 0) 1) (getD (g .places) i 0) 0 ≡ placeOf e)
   finding-same i none r = rw (r .state) (refl, refl)
   finding-same i (some (fault code place)) r = rw (r .state) (r .code, r .place)
   finding-same i (some (done at n rs)) r = rw (r .state) (refl, refl)
 
-  ask-same : (i : ℕ) → i < b .rows → reportOf (askAt g i) ≡ report 0 (standingM b i) (codeOf (outcome b i)) (placeOf (outcome b i)) (b .mark i)
+  ask-same : (i : ℕ) → i < b .rows → reportOf (askAt g i l) ≡ report 0 (standingM b i) (codeOf (outcome b i)) (placeOf (outcome b i)) (b .mark i)
   unfolding askAt
   ask-same i hi =
       let f = finding-same i (outcome b i) (m .row i hi) in
@@ -260,33 +276,30 @@ module _ {b : Model} {g : Register} (m : Sim b g) where
   step (asking row) = step-asking row (eqb (gateM b row) 0) refl
 
 -- ---- any list of calls
-pub run : {b : Model} {g : Register} (cs : List Call) → Sim b g
-    → (answersR g cs ≡ answersM b cs) × Sim (endM b cs) (endR g cs)
+pub run : {b : Model} {h : Held} (cs : List Call) → SimH b h → (answersR h cs ≡ answersM b cs) × SimH (endM b cs) (endR h cs)
 unfolding answersR answersM endM endR
 run [] m = (refl, m)
-run {b} {g} (c ∷ cs) m =
+run {b} {h} (c ∷ cs) m =
     let s = step m c in
     let r = run cs (s .1) in
     (rw (s .0, r .0), r .1)
 
 -- ---- the opening
-opened : (defs refs rows : ℕ) (x : Changed) (code : ℕ) (b : Model) → openOf defs refs rows ≡ x → openingM defs refs rows ≡ code
-    → openedM defs refs rows ≡ b → x .code ≡ code → Sim b (x .register)
-    → (openOf defs refs rows .code ≡ openingM defs refs rows) × Sim (openedM defs refs rows) (openOf defs refs rows .register)
-opened defs refs rows x code b p q r e m =
-    (ap (λ (y : Changed). y .code) p ∙ e ∙ sym q, subst₂ (λ (y : Model) (z : Changed). Sim y (z .register)) (sym r) (sym p) m)
+module _ (defs refs rows : ℕ) (l : List ℕ) where
+  abbrev code : ℕ
+  code = openCode defs refs rows (length l)
 
-module _ (defs refs rows : ℕ) where
-  open-cases : (s t : Bool) → (ltb maxRows defs || ltb maxRows refs) ≡ s → (eqb rows 0 || ltb maxSize rows) ≡ t
-      → (openOf defs refs rows .code ≡ openingM defs refs rows) × Sim (openedM defs refs rows) (openOf defs refs rows .register)
-  unfolding openOf openedM openingM
-  open-cases true t p q =
-      opened defs refs rows (changed 13 (blank 0 0 0)) 13 (emptyM 0 0 0) (rw p) (rw p) (rw p) refl (blank-sim 0 0 0 (omega arith))
-  open-cases false true p q =
-      opened defs refs rows (changed 19 (blank 0 0 0)) 19 (emptyM 0 0 0) (rw (p, q)) (rw (p, q)) (rw (p, q)) refl (blank-sim 0 0 0 (omega arith))
-  open-cases false false p q =
-      opened defs refs rows (changed 0 (blank defs refs rows)) 0 (emptyM defs refs rows) (rw (p, q)) (rw (p, q)) (rw (p, q)) refl
-      (blank-sim defs refs rows (ltb-false maxSize rows (or-none (eqb rows 0) (ltb maxSize rows) q)))
+  abbrev opened : Bool → Left
+  opened t = cond t (left (changed 0 (blank defs refs rows)) (zeroed l 0 (rows * words))) (left (changed code (blank 0 0 0)) l)
 
-  pub open-sim : (openOf defs refs rows .code ≡ openingM defs refs rows) × Sim (openedM defs refs rows) (openOf defs refs rows .register)
-  open-sim = open-cases (ltb maxRows defs || ltb maxRows refs) (eqb rows 0 || ltb maxSize rows) refl refl
+  open-cases : (t : Bool) → eqb code 0 ≡ t → (opened t .changed .code ≡ code) × SimH (cond t (emptyM defs refs rows) (emptyM 0 0 0)) (held (opened t))
+  open-cases true e =
+      let z = eqb-true code 0 e in
+      let k = open-ok defs refs rows (length l) z in
+      (sym z, blank-sim defs refs rows l (k .0) (k .1))
+  open-cases false e = (refl, none-sim l)
+
+  pub open-sim : (openOf defs refs rows l .changed .code ≡ openingM defs refs rows (length l))
+      × SimH (openedM defs refs rows (length l)) (held (openOf defs refs rows l))
+  unfolding openOf openedM openCode openingM
+  open-sim = open-cases (eqb code 0) refl

@@ -1,15 +1,16 @@
--- Document 01, "The night book": the model that the register is held against. It is fed the opening's counts and size, then the name of
--- each call with its arguments except the register, and nothing that the program answers or keeps. Row r has the index r - 1.
-use Prim.Native.Nat.{ℕ, _+_, _-_}
+-- Document 01, "The night book": the model that the register is held against. It is fed the opening's counts and size, and how many numbers
+-- are lent (document 02, wish 8), then the name of each call with its arguments except the register and the numbers, and nothing that the
+-- program answers or keeps. Row r has the index r - 1.
+use Prim.Native.Nat.{ℕ, _+_, _-_, _*_}
 use mathlib.Core.List.{List, [], _∷_}
 use mathlib.Core.Option.{Option, none, some}
 use mathlib.Core.Bool.{Bool, cond, _||_}
 use lib.Dec.{ltb, eqb}
 use Rattle.reach.specs.Reach.{Graph, thru}
 use Rattle.standing.specs.Standing.{standing}
-use Rattle.grammar.specs.Limits.{maxRows}
 use Rattle.grammar.specs.Judge.{Out}
-use Rattle.answer.specs.Size.{maxSize}
+use Rattle.grammar.specs.Limits.{maxRows}
+use Rattle.answer.specs.Size.{maxSize, words}
 use Rattle.answer.specs.Answers.{ackCode}
 use Rattle.filing.specs.Outcome.{judged, stateOf, codeOf, placeOf, namesRow}
 
@@ -107,9 +108,10 @@ abbrev pub emptyM : (defs refs rows : ℕ) → Model
 emptyM defs refs rows = record { defs = defs; refs = refs; rows = rows; blob = λ i. none; mark = λ i. 0 }
 
 -- "Where a count or the size is out of bounds, its opening answers 13 or 19 in the order above, and it has no rows; else 0, and it has
--- rows 1 to the size, no blob and no mark"
-unfoldable pub openingM : (defs refs rows : ℕ) → ℕ
-openingM defs refs rows = cond (ltb maxRows defs || ltb maxRows refs) 13 (cond (eqb rows 0 || ltb maxSize rows) 19 0)
+-- rows 1 to the size, no blob and no mark"; document 02: "where they are too few for the size its opening gives 27, after 19, and it has no rows"
+unfoldable pub openingM : (defs refs rows lent : ℕ) → ℕ
+openingM defs refs rows lent =
+    cond (ltb maxRows defs || ltb maxRows refs) 13 (cond (eqb rows 0 || ltb maxSize rows) 19 (cond (ltb lent (rows * words)) 27 0))
 
-unfoldable pub openedM : (defs refs rows : ℕ) → Model
-openedM defs refs rows = cond (eqb (openingM defs refs rows) 0) (emptyM defs refs rows) (emptyM 0 0 0)
+unfoldable pub openedM : (defs refs rows lent : ℕ) → Model
+openedM defs refs rows lent = cond (eqb (openingM defs refs rows lent) 0) (emptyM defs refs rows) (emptyM 0 0 0)

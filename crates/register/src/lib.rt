@@ -1,21 +1,25 @@
-// The register of the TypeSpec rows of one module, a struct by value. Row r has the index r - 1.
+// The register of the TypeSpec rows of one module, a struct by value, with the sets of rows that its rows name in numbers that the caller lends: the
+// same at each call from the opening on, WORDS to a row. Row r has the index r - 1.
 ghost use mathlib.Core.Path.{_≡_};
 ghost use Prim.Native.Nat.{ℕ, _*_, _≤_, _<_};
-ghost use Rattle.reach.specs.Reach.{thru};
-ghost use Rattle.bits.specs.Bits.{at};
-ghost use Rattle.filing.specs.Size.{words};
+ghost use lib.ListN.{length};
 ghost use Rattle.filing.specs.Outcome.{judged};
-ghost use Rattle.answer.specs.Size.{maxSize};
-ghost use Rattle.register.specs.Calls.{blank, openOf, filed, fileOf, marksAfter, ackAt, ackOf, askAt, askOf, standingOf, standingsOf};
+ghost use Rattle.answer.specs.Size.{maxSize, words};
+ghost use Rattle.register.specs.Calls.{blank, left, openCode, openOf, filed, filedSets, fileOf, marksAfter, ackAt, ackOf, askAt, askOf, standingOf, standingsOf};
 pub use answer::Asked;
 pub use answer::SIZE;
+pub use answer::WORDS;
 use answer::ack_code;
 use answer::admit;
 use answer::asked_of;
-use filing::WORDS;
 use filing::judge_row;
 use grammar::MAX_ROWS;
 use number::token::Counts;
+
+// Up to so many rows, a row is asked with this many words to a row in the closed table, which is then small enough to be closed quickly.
+const FEW: usize = 64;
+
+const FEW_WORDS: usize = FEW / 32;
 
 pub struct Register {
     // the row counts of TypeDef and TypeRef
@@ -24,14 +28,12 @@ pub struct Register {
     // the number of rows, which is the row count of TypeSpec
     pub rows: usize,
     // of each row: 0 never filed, 1 refused, 2 accepted
-    pub states: [u32; SIZE],
+    pub states: [u8; SIZE],
     // of each refused row: the refusal's number and place
-    pub codes: [u32; SIZE],
-    pub places: [usize; SIZE],
+    pub codes: [u8; SIZE],
+    pub places: [u16; SIZE],
     // of each row: 0 for no mark
-    pub marks: [u32; SIZE],
-    // of each row: the set of rows that its modifiers name
-    pub names: [u32; SIZE * WORDS],
+    pub marks: [u8; SIZE],
 }
 
 // The number that a call answers, and the register afterwards.
@@ -47,133 +49,139 @@ fn blank_register(defs: u32, refs: u32, rows: usize) -> Register
         defs,
         refs,
         rows,
-        states: [0u32; SIZE],
-        codes: [0u32; SIZE],
-        places: [0usize; SIZE],
-        marks: [0u32; SIZE],
-        names: [0u32; SIZE * WORDS],
+        states: [0u8; SIZE],
+        codes: [0u8; SIZE],
+        places: [0u16; SIZE],
+        marks: [0u8; SIZE],
     }
 }
 
-fn refused_opening(code: u32) -> Changed
-    ensures { λ r. ⌜ r ≡ Rattle.register.specs.Calls.changed code (blank 0 0 0) ⌝ }
-{
-    let register = blank_register(0, 0, 0);
-    Changed { code, register }
-}
-
-// Opens a register of so many rows; a refused opening hands back one of 0 rows.
-pub fn open(defs: u32, refs: u32, rows: usize) -> Changed
-    ensures { λ r. ⌜ r ≡ openOf defs refs rows ⌝ }
+// 13, 19, 27 or 0: what opening answers, with so many words lent.
+fn opening_code(defs: u32, refs: u32, rows: usize, lent: usize) -> u32
+    ensures { λ r. ⌜ r ≡ openCode defs refs rows lent ⌝ }
 {
     if MAX_ROWS < defs {
-        return refused_opening(13);
+        return 13;
     }
     if MAX_ROWS < refs {
-        return refused_opening(13);
+        return 13;
     }
     if rows == 0 {
-        return refused_opening(19);
+        return 19;
     }
     if SIZE < rows {
-        return refused_opening(19);
+        return 19;
     }
+    if lent < rows * WORDS {
+        return 27;
+    }
+    0
+}
+
+// Opens a register of so many rows, whose words it clears; a refused opening hands back one of 0 rows.
+pub fn open(defs: u32, refs: u32, rows: usize, sets: &mut [u32]) -> Changed
+    ensures { λ r. ⌜ left r (now (sets .exit)) ≡ openOf defs refs rows (now (sets .entry)) ⌝ }
+{
+    let no = opening_code(defs, refs, rows, sets.len());
+    if no != 0 {
+        let none = blank_register(0, 0, 0);
+        return Changed {
+            code: no,
+            register: none,
+        };
+    }
+    bits::clear(sets, 0, rows * WORDS);
     let register = blank_register(defs, refs, rows);
     Changed { code: 0, register }
 }
 
-// The table of what each of the n rows reaches.
-fn closed(names: [u32; SIZE * WORDS], n: usize) -> [u32; SIZE * WORDS]
-    requires { ⌜ n ≤ maxSize ⌝ }
-    ensures { λ m. ⌜ ((r s : ℕ) → r < n → s < 32 * words → at words m r s ≡ thru (at words names) n r s) ⌝ }
-{
-    let mut m = names;
-    reach::close(&mut m, n, WORDS);
-    m
-}
-
-fn standing_at(g: Register, i: usize) -> u32
-    requires { ⌜ (g .rows ≤ maxSize) × (i < g .rows) ⌝ }
-    ensures { λ r. ⌜ r ≡ standingOf g i ⌝ }
+fn standing_at(g: Register, i: usize, sets: &[u32]) -> u8
+    requires { ⌜ (g .rows ≤ maxSize) × (i < g .rows) × (g .rows * words ≤ length (now sets)) ⌝ }
+    ensures { λ r. ⌜ r ≡ standingOf g i (now (sets .entry)) ⌝ }
 {
     let n = g.rows;
-    let names = g.names;
-    let m = closed(names, n);
     let states = g.states;
-    standing::standing_of(&m, WORDS, &states, n, i)
+    if n <= FEW {
+        let mut room = [0u32; FEW * FEW_WORDS];
+        return standing::standing_among(&mut room, FEW_WORDS, sets, WORDS, &states, n, i);
+    }
+    let mut room = [0u32; SIZE * WORDS];
+    standing::standing_among(&mut room, WORDS, sets, WORDS, &states, n, i)
 }
 
-// The standings of all rows, in their order, by one closure; 0 behind the last row, and for a size above 64 everywhere.
-pub fn standings(g: Register) -> [u32; SIZE]
-    ensures { λ r. ⌜ r ≡ standingsOf g ⌝ }
+// The standings of all rows, in their order, by one closure; 0 behind the last row, and for a size above 512 or too few words lent everywhere.
+pub fn standings(g: Register, sets: &[u32]) -> [u8; SIZE]
+    ensures { λ r. ⌜ r ≡ standingsOf g (now (sets .entry)) ⌝ }
 {
-    let mut all = [0u32; SIZE];
+    let mut all = [0u8; SIZE];
     let n = g.rows;
     if SIZE < n {
         return all;
     }
-    let names = g.names;
-    let m = closed(names, n);
+    if sets.len() < n * WORDS {
+        return all;
+    }
     let states = g.states;
-    standing::standings_of(&mut all, &m, WORDS, &states, n);
+    let mut room = [0u32; SIZE * WORDS];
+    standing::standings_among(&mut all, &mut room, WORDS, sets, WORDS, &states, n);
     all
 }
 
-// The marks after row i is filed.
-fn marks_after(g: Register, i: usize) -> [u32; SIZE]
-    requires { ⌜ (g .rows ≤ maxSize) × (i < g .rows) ⌝ }
-    ensures { λ r. ⌜ r ≡ marksAfter g i ⌝ }
+// The marks after row i is filed. Where there are none, none is taken, whatever the rows reach.
+fn marks_after(g: Register, i: usize, sets: &[u32]) -> [u8; SIZE]
+    requires { ⌜ (g .rows ≤ maxSize) × (i < g .rows) × (g .rows * words ≤ length (now sets)) ⌝ }
+    ensures { λ r. ⌜ r ≡ marksAfter g i (now (sets .entry)) ⌝ }
 {
     let n = g.rows;
-    let names = g.names;
-    let m = closed(names, n);
     let mut marks = g.marks;
-    standing::unmark(&mut marks, &m, WORDS, n, i);
+    if standing::any_marked(&marks, n) {
+        let mut room = [0u32; SIZE * WORDS];
+        standing::unmark_among(&mut marks, &mut room, WORDS, sets, WORDS, n, i);
+        return marks;
+    }
     marks
 }
 
-fn file_at(g: Register, i: usize, blob: &[u8]) -> Register
-    requires { ⌜ (g .rows ≤ maxSize) × (i < g .rows) ⌝ }
-    ensures { λ r. ⌜ r ≡ filed g i (judged (g .defs) (g .refs) (g .rows) (now (blob .entry))) ⌝ }
+fn file_at(g: Register, i: usize, blob: &[u8], sets: &mut [u32]) -> Register
+    requires { ⌜ (g .rows ≤ maxSize) × (i < g .rows) × (g .rows * words ≤ length (now sets)) ⌝ }
+    ensures { λ r. ⌜ (r ≡ filed g i (judged (g .defs) (g .refs) (g .rows) (now (blob .entry))) (now (sets .entry))) × (now (sets .exit) ≡ filedSets i (judged (g .defs) (g .refs) (g .rows) (now (blob .entry))) (now (sets .entry))) ⌝ }
 {
-    let marks = marks_after(g, i);
+    let marks = marks_after(g, i, sets);
     let counts = Counts {
         defs: g.defs,
         refs: g.refs,
         specs: g.rows as u32,
     };
-    let mut names = g.names;
-    let finding = judge_row(&mut names, i, counts, blob);
+    let finding = judge_row(sets, i, counts, blob);
     let mut next = g;
     next.states[i] = finding.state;
     next.codes[i] = finding.code;
     next.places[i] = finding.place;
     next.marks = marks;
-    next.names = names;
     next
 }
 
 // Files a blob, good or bad, for a row.
-pub fn file(g: Register, row: usize, blob: &[u8]) -> Changed
-    ensures { λ r. ⌜ r ≡ fileOf g row (now (blob .entry)) ⌝ }
+pub fn file(g: Register, row: usize, blob: &[u8], sets: &mut [u32]) -> Changed
+    ensures { λ r. ⌜ left r (now (sets .exit)) ≡ fileOf g row (now (blob .entry)) (now (sets .entry)) ⌝ }
 {
     let n = g.rows;
-    let no = admit(n, row);
+    let no = admit(sets.len(), n, row);
     if no != 0 {
         return Changed {
             code: no,
             register: g,
         };
     }
-    let register = file_at(g, row - 1, blob);
+    let register = file_at(g, row - 1, blob, sets);
     Changed { code: 0, register }
 }
 
-fn acknowledge_at(g: Register, i: usize) -> Changed
-    requires { ⌜ (g .rows ≤ maxSize) × (i < g .rows) ⌝ }
-    ensures { λ r. ⌜ r ≡ ackAt g i ⌝ }
+fn acknowledge_at(g: Register, i: usize, sets: &[u32]) -> Changed
+    requires { ⌜ (g .rows ≤ maxSize) × (i < g .rows) × (g .rows * words ≤ length (now sets)) ⌝ }
+    ensures { λ r. ⌜ r ≡ ackAt g i (now (sets .entry)) ⌝ }
 {
-    let standing = standing_at(g, i);
+    let standing = standing_at(g, i, sets);
     let mark = g.marks[i];
     let code = ack_code(standing, mark);
     if code != 0 {
@@ -188,34 +196,34 @@ fn acknowledge_at(g: Register, i: usize) -> Changed
 }
 
 // Marks a row that is BAD, LOOP or LEANS.
-pub fn acknowledge(g: Register, row: usize) -> Changed
-    ensures { λ r. ⌜ r ≡ ackOf g row ⌝ }
+pub fn acknowledge(g: Register, row: usize, sets: &[u32]) -> Changed
+    ensures { λ r. ⌜ r ≡ ackOf g row (now (sets .entry)) ⌝ }
 {
     let n = g.rows;
-    let no = admit(n, row);
+    let no = admit(sets.len(), n, row);
     if no != 0 {
         return Changed {
             code: no,
             register: g,
         };
     }
-    acknowledge_at(g, row - 1)
+    acknowledge_at(g, row - 1, sets)
 }
 
-fn ask_at(g: Register, i: usize) -> Asked
-    requires { ⌜ (g .rows ≤ maxSize) × (i < g .rows) ⌝ }
-    ensures { λ r. ⌜ r ≡ askAt g i ⌝ }
+fn ask_at(g: Register, i: usize, sets: &[u32]) -> Asked
+    requires { ⌜ (g .rows ≤ maxSize) × (i < g .rows) × (g .rows * words ≤ length (now sets)) ⌝ }
+    ensures { λ r. ⌜ r ≡ askAt g i (now (sets .entry)) ⌝ }
 {
-    let standing = standing_at(g, i);
+    let standing = standing_at(g, i, sets);
     asked_of(standing, g.states[i], g.codes[i], g.places[i], g.marks[i])
 }
 
 // A row's standing, finding, place and mark.
-pub fn ask(g: Register, row: usize) -> Asked
-    ensures { λ r. ⌜ r ≡ askOf g row ⌝ }
+pub fn ask(g: Register, row: usize, sets: &[u32]) -> Asked
+    ensures { λ r. ⌜ r ≡ askOf g row (now (sets .entry)) ⌝ }
 {
     let n = g.rows;
-    let no = admit(n, row);
+    let no = admit(sets.len(), n, row);
     if no != 0 {
         return Asked {
             code: no,
@@ -225,5 +233,5 @@ pub fn ask(g: Register, row: usize) -> Asked
             mark: 0,
         };
     }
-    ask_at(g, row - 1)
+    ask_at(g, row - 1, sets)
 }

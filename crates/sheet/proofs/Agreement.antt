@@ -1,20 +1,23 @@
 -- The print by standings that are known and by marks alone is the print by the register's calls: a press changes nothing but a mark, and no
 -- standing goes by a mark.
 -- Assumes nothing.
-use Prim.Native.Nat.{ℕ, zero, suc, _+_, _-_, _<_, _≤_}
+use Prim.Native.Nat.{ℕ, zero, suc, _+_, _-_, _*_, _<_, _≤_}
 use mathlib.Core.Path.{_≡_, refl, sym, ap, _∙_}
 use mathlib.Core.List.{List, [], _∷_, _++_}
-use mathlib.Core.Bool.{Bool, true, false, cond, _||_}
+use mathlib.Core.Bool.{Bool, true, false, cond}
 use native.Mathlib.Omega.{arith}
-use lib.ListN.{getD, set}
-use lib.Dec.{ltb, eqb}
-use borrow.Author.Tests.{le-ltb, ne-eqb, eqb-true, ltb-false}
-use Rattle.grammar.specs.Limits.{maxRows}
-use Rattle.answer.specs.Size.{maxSize}
-use Rattle.answer.specs.Answers.{gate, ackCode}
-use Rattle.register.specs.Calls.{blank, changed, openOf, judged, filed, fileOf, standingOf, standingsOf, marked, ackAt, ackOf, askAt, askOf}
+use lib.ListN.{length, getD, set}
+use lib.Dec.{eqb}
+use borrow.Author.Tests.{le-ltb, ne-eqb, eqb-true}
+use Rattle.answer.specs.Size.{maxSize, words}
+use Rattle.answer.specs.Answers.{rowGate, gate, ackCode}
+use Rattle.register.specs.Calls.{Held, held, holding, left, blank, changed, openCode, openOf, judged, filed, filedAt, fileOf, standingOf, standingsOf, marked, ackAt, ackOf, askAt, askOf}
 use Rattle.register.specs.declared.Register.{Register}
-use Rattle.answer.proofs.Gates.{gate-ok}
+use Rattle.answer.proofs.Gates.{row-ok, gate-within}
+use Rattle.bits.specs.Bits.{zeroed}
+use Rattle.bits.proofs.BitLaws.{length-zeroed}
+use Rattle.register.proofs.Openings.{open-ok}
+use Rattle.register.proofs.Lent.{file-length}
 use Rattle.register.proofs.RowStandings.{standings-at}
 use Rattle.layout.specs.Layout.{blobsFrom, defsOf, refsOf}
 use Rattle.text.specs.Lines.{header}
@@ -24,34 +27,48 @@ use Rattle.presses.specs.Presses.{pressCode, pressMarks, pressLines, pressesMar
 use Rattle.sheet.specs.Rows.{askedBy, rowsBy, printedBy}
 use Rattle.layout.specs.declared.Layout.{Layout}
 
--- ---- the number of rows
-open-rows : (defs refs rows : ℕ) → openOf defs refs rows .register .rows ≤ maxSize
-unfolding openOf
-open-rows defs refs rows = picked (ltb maxRows defs || ltb maxRows refs) (eqb rows 0) (ltb maxSize rows) refl
-  where
-    picked : (a b c : Bool) → ltb maxSize rows ≡ c
-        → cond a (changed 13 (blank 0 0 0)) (cond (b || c) (changed 19 (blank 0 0 0)) (changed 0 (blank defs refs rows))) .register .rows ≤ maxSize
-    picked true b c e = omega arith
-    picked false true c e = omega arith
-    picked false false true e = omega arith
-    picked false false false e = ltb-false maxSize rows e
+-- ---- the number of rows, and of the numbers lent
+pub record Fits (h : Held) : Type 0 where
+  pub size : h .register .rows ≤ maxSize
+  pub enough : h .register .rows * words ≤ length (h .sets)
 
-file-rows : (g : Register) (row : ℕ) (blob : List ℕ) → fileOf g row blob .register .rows ≡ g .rows
-unfolding fileOf filed
-file-rows g row blob = picked (eqb (gate (g .rows) row) 0)
+open-fits : (defs refs rows : ℕ) (l : List ℕ) → Fits (held (openOf defs refs rows l))
+unfolding openOf
+open-fits defs refs rows l = picked (eqb (openCode defs refs rows (length l)) 0) refl
   where
-    picked : (b : Bool) → cond b (changed 0 (filed g (row - 1) (judged (g .defs) (g .refs) (g .rows) blob))) (changed (gate (g .rows) row) g) .register .rows ≡ g .rows
+    picked : (t : Bool) → eqb (openCode defs refs rows (length l)) 0 ≡ t
+        → Fits (held (cond t (left (changed 0 (blank defs refs rows)) (zeroed l 0 (rows * words))) (left (changed (openCode defs refs rows (length l)) (blank 0 0 0)) l)))
+    picked true e =
+        let k = open-ok defs refs rows (length l) (eqb-true _ _ e) in
+        record { size = k .0; enough = omega (arith, k .1, length-zeroed l 0 (rows * words)) }
+    picked false e = record { size = omega arith; enough = omega arith }
+
+file-rows : (g : Register) (row : ℕ) (blob l : List ℕ) → fileOf g row blob l .changed .register .rows ≡ g .rows
+unfolding fileOf filed
+file-rows g row blob l = picked (eqb (gate (length l) (g .rows) row) 0)
+  where
+    picked : (b : Bool) → cond b (filedAt g (row - 1) (judged (g .defs) (g .refs) (g .rows) blob) l) (left (changed (gate (length l) (g .rows) row) g) l) .changed .register .rows ≡ g .rows
     picked true = refl
     picked false = refl
 
-pub filed-rows : (blobs : List (List ℕ)) (g : Register) (row : ℕ) → filedAll g row blobs .rows ≡ g .rows
-unfolding filedAll
-filed-rows [] g row = refl
-filed-rows (blob ∷ blobs) g row = filed-rows blobs (fileOf g row blob .register) (row + 1) ∙ file-rows g row blob
+file-fits : (h : Held) (row : ℕ) (blob : List ℕ) → Fits h → Fits (held (fileOf (h .register) row blob (h .sets)))
+file-fits h row blob f =
+    let r = file-rows (h .register) row blob (h .sets) in
+    record { size = omega (arith, r, f .size); enough = omega (arith, r, f .enough, file-length (h .register) row blob (h .sets)) }
 
-pub register-rows : (s : List ℕ) (l : Layout) → registerOf s l .rows ≤ maxSize
+pub filed-rows : (blobs : List (List ℕ)) (h : Held) (row : ℕ) → filedAll h row blobs .register .rows ≡ h .register .rows
+unfolding filedAll
+filed-rows [] h row = refl
+filed-rows (blob ∷ blobs) h row = filed-rows blobs (held (fileOf (h .register) row blob (h .sets))) (row + 1) ∙ file-rows (h .register) row blob (h .sets)
+
+filed-fits : (blobs : List (List ℕ)) (h : Held) (row : ℕ) → Fits h → Fits (filedAll h row blobs)
+unfolding filedAll
+filed-fits [] h row f = f
+filed-fits (blob ∷ blobs) h row f = filed-fits blobs (held (fileOf (h .register) row blob (h .sets))) (row + 1) (file-fits h row blob f)
+
+pub register-fits : (s : List ℕ) (l : Layout) (sets : List ℕ) → Fits (registerOf s l sets)
 unfolding registerOf
-register-rows s l = let z = open-rows (defsOf s l) (refsOf s l) (l .rows) in omega (arith, z, filed-rows (blobsFrom (l .rows) s (l .blobs)) (openOf (defsOf s l) (refsOf s l) (l .rows) .register) 1)
+register-fits s l sets = filed-fits (blobsFrom (l .rows) s (l .blobs)) (held (openOf (defsOf s l) (refsOf s l) (l .rows) sets)) 1 (open-fits (defsOf s l) (refsOf s l) (l .rows) sets)
 
 -- ---- presses on a register that has other marks
 abbrev withMarks : Register → List ℕ → Register
@@ -63,13 +80,12 @@ withMarks g marks = record {
   codes = g .codes;
   places = g .places;
   marks = marks;
-  names = g .names;
 }
 
-module _ (g : Register) (le : g .rows ≤ maxSize) where
-  press-is : (marks : List ℕ) (row : ℕ) → ackOf (withMarks g marks) row ≡ changed (pressCode (standingsOf g) (g .rows) marks row) (withMarks g (pressMarks (standingsOf g) (g .rows) marks row))
+module _ (g : Register) (l : List ℕ) (le : g .rows ≤ maxSize) (enough : g .rows * words ≤ length l) where
+  press-is : (marks : List ℕ) (row : ℕ) → ackOf (withMarks g marks) row l ≡ changed (pressCode (standingsOf g l) (g .rows) marks row) (withMarks g (pressMarks (standingsOf g l) (g .rows) marks row))
   unfolding ackOf ackAt pressCode pressMarks
-  press-is marks row = picked (eqb (gate (g .rows) row) 0) refl
+  press-is marks row = rw (gate-within (length l) (g .rows) row le enough) (picked (eqb (rowGate (g .rows) row) 0) refl)
     where
       i : ℕ
       i = row - 1
@@ -83,42 +99,42 @@ module _ (g : Register) (le : g .rows ≤ maxSize) where
       pressed true standing e = ap (λ c. changed c (marked (withMarks g marks) i 1)) (sym (eqb-true (code standing) 0 e))
       pressed false standing e = refl
 
-      picked : (b : Bool) → eqb (gate (g .rows) row) 0 ≡ b
-          → cond b (cond (eqb (code (standingOf g i)) 0) (changed 0 (marked (withMarks g marks) i 1)) (changed (code (standingOf g i)) (withMarks g marks))) (changed (gate (g .rows) row) (withMarks g marks))
-          ≡ changed (cond b (code (getD (standingsOf g) i 0)) (gate (g .rows) row)) (withMarks g (cond (eqb (cond b (code (getD (standingsOf g) i 0)) (gate (g .rows) row)) 0) (set marks i 1) marks))
+      picked : (b : Bool) → eqb (rowGate (g .rows) row) 0 ≡ b
+          → cond b (cond (eqb (code (standingOf g i l)) 0) (changed 0 (marked (withMarks g marks) i 1)) (changed (code (standingOf g i l)) (withMarks g marks))) (changed (rowGate (g .rows) row) (withMarks g marks))
+          ≡ changed (cond b (code (getD (standingsOf g l) i 0)) (rowGate (g .rows) row)) (withMarks g (cond (eqb (cond b (code (getD (standingsOf g l) i 0)) (rowGate (g .rows) row)) 0) (set marks i 1) marks))
       picked true e =
-          let a = gate-ok (g .rows) row (eqb-true _ _ e) in
-          let s : getD (standingsOf g) i 0 ≡ standingOf g i = standings-at g le i (omega (arith, a .low, a .high)) in
-          rw s (pressed (eqb (code (standingOf g i)) 0) (standingOf g i) refl)
+          let a = row-ok (g .rows) row (eqb-true _ _ e) in
+          let s : getD (standingsOf g l) i 0 ≡ standingOf g i l = standings-at g l le enough i (omega (arith, a .low, a .high)) in
+          rw s (pressed (eqb (code (standingOf g i l)) 0) (standingOf g i l) refl)
       picked false e = rw e refl
 
-  lines-agree : (acks marks : List ℕ) → ackLines (withMarks g marks) acks ≡ pressLines (standingsOf g) (g .rows) marks acks
+  lines-agree : (acks marks : List ℕ) → ackLines l (withMarks g marks) acks ≡ pressLines (standingsOf g l) (g .rows) marks acks
   unfolding ackLines pressLines
   lines-agree [] marks = refl
-  lines-agree (row ∷ acks) marks = rw (press-is marks row) (rw (lines-agree acks (pressMarks (standingsOf g) (g .rows) marks row)) refl)
+  lines-agree (row ∷ acks) marks = rw (press-is marks row) (rw (lines-agree acks (pressMarks (standingsOf g l) (g .rows) marks row)) refl)
 
-  acked-agree : (acks marks : List ℕ) → ackedAll (withMarks g marks) acks ≡ withMarks g (pressesMarks (standingsOf g) (g .rows) marks acks)
+  acked-agree : (acks marks : List ℕ) → ackedAll l (withMarks g marks) acks ≡ withMarks g (pressesMarks (standingsOf g l) (g .rows) marks acks)
   unfolding ackedAll pressesMarks
   acked-agree [] marks = refl
-  acked-agree (row ∷ acks) marks = rw (press-is marks row) (acked-agree acks (pressMarks (standingsOf g) (g .rows) marks row))
+  acked-agree (row ∷ acks) marks = rw (press-is marks row) (acked-agree acks (pressMarks (standingsOf g l) (g .rows) marks row))
 
-  asked-agree : (marks : List ℕ) (i : ℕ) → i < g .rows → askOf (withMarks g marks) (i + 1) ≡ askedBy g (standingsOf g) marks i
-  unfolding askOf askAt askedBy gate
+  asked-agree : (marks : List ℕ) (i : ℕ) → i < g .rows → askOf (withMarks g marks) (i + 1) l ≡ askedBy g (standingsOf g l) marks i
+  unfolding askOf askAt askedBy rowGate
   asked-agree marks i h =
       let z : i + 1 - 1 ≡ i = omega arith in
-      rw (le-ltb maxSize (g .rows) le, ne-eqb (i + 1) 0 (omega arith), le-ltb (g .rows) (i + 1) h′, z, standings-at g le i h) refl
+      rw (gate-within (length l) (g .rows) (i + 1) le enough, ne-eqb (i + 1) 0 (omega arith), le-ltb (g .rows) (i + 1) h′, z, standings-at g l le enough i h) refl
     where
       h′ : i + 1 ≤ g .rows
       h′ = omega arith
 
-  rows-agree : (marks : List ℕ) (k i : ℕ) → i + k ≤ g .rows → rowLines (withMarks g marks) k (i + 1) ≡ rowsBy g (standingsOf g) marks k i
+  rows-agree : (marks : List ℕ) (k i : ℕ) → i + k ≤ g .rows → rowLines l (withMarks g marks) k (i + 1) ≡ rowsBy g (standingsOf g l) marks k i
   unfolding rowLines rowsBy
   rows-agree marks zero i h = refl
   rows-agree marks (suc k) i h = rw (asked-agree marks i (omega arith), rows-agree marks k (i + 1) (omega arith)) refl
 
-  pub printed-agree : (acks : List ℕ) → printed g acks ≡ printedBy g (standingsOf g) (g .marks) acks
+  pub printed-agree : (acks : List ℕ) → printed (holding g l) acks ≡ printedBy g (standingsOf g l) (g .marks) acks
   unfolding printed printedBy
   printed-agree acks =
-      ap (λ (y : Register). header ++ rowLines y (g .rows) 1 ++ ackLines g acks) (acked-agree acks (g .marks))
-      ∙ ap (λ (y : List ℕ). header ++ y ++ ackLines g acks) (rows-agree (pressesMarks (standingsOf g) (g .rows) (g .marks) acks) (g .rows) 0 (omega arith))
-      ∙ ap (λ (y : List ℕ). header ++ rowsBy g (standingsOf g) (pressesMarks (standingsOf g) (g .rows) (g .marks) acks) (g .rows) 0 ++ y) (lines-agree acks (g .marks))
+      ap (λ (y : Register). header ++ rowLines l y (g .rows) 1 ++ ackLines l g acks) (acked-agree acks (g .marks))
+      ∙ ap (λ (y : List ℕ). header ++ y ++ ackLines l g acks) (rows-agree (pressesMarks (standingsOf g l) (g .rows) (g .marks) acks) (g .rows) 0 (omega arith))
+      ∙ ap (λ (y : List ℕ). header ++ rowsBy g (standingsOf g l) (pressesMarks (standingsOf g l) (g .rows) (g .marks) acks) (g .rows) 0 ++ y) (lines-agree acks (g .marks))

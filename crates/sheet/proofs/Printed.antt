@@ -6,31 +6,35 @@ use mathlib.Core.List.{List, _++_}
 use lib.ListN.{length}
 use Rattle.reader.specs.declared.Answer.{Answer}
 use Rattle.answer.specs.Size.{maxSize}
-use Rattle.register.specs.Calls.{standingsOf}
+use Rattle.register.specs.Calls.{Held, holding, standingsOf}
 use Rattle.register.specs.declared.Register.{Register}
 use Rattle.layout.specs.Layout.{layoutOf, acksFrom}
 use Rattle.text.specs.Lines.{header}
 use Rattle.deposit.specs.Deposit.{registerOf}
-use Rattle.sheet.specs.Text.{printed, acceptedText, textFor, textOf, Runs}
+use Rattle.sheet.specs.Text.{ownSets, printed, acceptedText, textFor, textOf, Runs}
 use Rattle.text.specs.Printing.{greatest, further, laid}
 use Rattle.presses.specs.Presses.{pressLines, pressesMarks}
 use Rattle.sheet.specs.Rows.{rowsBy, printedBy}
 use Rattle.layout.specs.declared.Layout.{Layout}
 use Rattle.layout.specs.declared.Parsed.{Parsed}
-use Rattle.sheet.proofs.Agreement.{register-rows, printed-agree}
+use Rattle.sheet.proofs.Agreement.{Fits, register-fits, printed-agree}
 use Rattle.sheet.proofs.Fits.{runs-short, runs-fits}
 use Rattle.sheet.proofs.Lengths.{printed-length}
 
-pub rows-fit : (s : List ℕ) (l : Layout) {g : Register} → g ≡ registerOf s l → g .rows ≤ maxSize
-rows-fit s l e = subst (λ (y : Register). y .rows ≤ maxSize) (sym e) (register-rows s l)
+module _ (s : List ℕ) (l : Layout) {g : Register} {sets : List ℕ} (eg : holding g sets ≡ registerOf s l ownSets) where
+  fits : Fits (holding g sets)
+  fits = subst (λ (y : Held). Fits y) (sym eg) (register-fits s l ownSets)
 
-module _ (s : List ℕ) (l : Layout) {g : Register} (eg : g ≡ registerOf s l) {standings : List ℕ} (es : standings ≡ standingsOf g) (h : l .presses < 2 ^ 32)
+  pub rows-fit : g .rows ≤ maxSize
+  rows-fit = fits .size
+
+module _ (s : List ℕ) (l : Layout) {g : Register} {sets : List ℕ} (eg : holding g sets ≡ registerOf s l ownSets) {standings : List ℕ} (es : standings ≡ standingsOf g sets) (h : l .presses < 2 ^ 32)
     {needed : ℕ} (en : needed ≡ further 0 (length (printedBy g standings (g .marks) (acksFrom (l .presses) s (l .acks))))) (out : List ℕ) where
   by-register : printedBy g standings (g .marks) (acksFrom (l .presses) s (l .acks)) ≡ acceptedText s l
   by-register =
       ap (λ (y : List ℕ). printedBy g y (g .marks) (acksFrom (l .presses) s (l .acks))) es
-      ∙ sym (printed-agree g (rows-fit s l eg) (acksFrom (l .presses) s (l .acks)))
-      ∙ ap (λ (y : Register). printed y (acksFrom (l .presses) s (l .acks))) eg
+      ∙ sym (printed-agree g sets (fits s l eg .size) (fits s l eg .enough) (acksFrom (l .presses) s (l .acks)))
+      ∙ ap (λ (y : Held). printed y (acksFrom (l .presses) s (l .acks))) eg
 
   bound : length (printedBy g standings (g .marks) (acksFrom (l .presses) s (l .acks))) ≤ greatest
   bound = printed-length g (rows-fit s l eg) standings (g .marks) (l .presses) h s (l .acks)

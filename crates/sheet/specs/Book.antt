@@ -1,8 +1,9 @@
 -- Document 01, "The night book", for a sheet: what the model prints when it is opened with a sheet's counts, its blobs are filed and its rows
--- acknowledged. It sees nothing of the register.
-use Prim.Native.Nat.{ℕ, zero, suc, _+_}
+-- acknowledged. It sees nothing of the register. As many numbers are lent as the greatest size needs.
+use Prim.Native.Nat.{ℕ, zero, suc, _+_, _*_}
 use mathlib.Core.List.{List, [], _∷_, _++_}
 use lib.ListN.{length}
+use Rattle.answer.specs.Size.{maxSize, words}
 use Rattle.answer.specs.Answers.{told}
 use Rattle.register.specs.Model.{Model, Call, filing, acknowledging, asking, Answer, number, report, answerM, answersM, endM, openedM}
 use Rattle.text.specs.Lines.{header, rowLine, ackLine}
@@ -39,5 +40,5 @@ pressed (row ∷ acks) (a ∷ answers) = pressLine row a ++ pressed acks answers
 
 unfoldable pub bookPrint : (defs refs : ℕ) → List (List ℕ) → List ℕ → List ℕ
 bookPrint defs refs blobs acks =
-    header ++ bookRows (endM (openedM defs refs (length blobs)) (filings 1 blobs ++ presses acks)) (length blobs) 1
-    ++ pressed acks (answersM (endM (openedM defs refs (length blobs)) (filings 1 blobs)) (presses acks))
+    header ++ bookRows (endM (openedM defs refs (length blobs) (maxSize * words)) (filings 1 blobs ++ presses acks)) (length blobs) 1
+    ++ pressed acks (answersM (endM (openedM defs refs (length blobs) (maxSize * words)) (filings 1 blobs)) (presses acks))

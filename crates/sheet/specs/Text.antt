@@ -1,14 +1,15 @@
 -- Document 01, "Deposit sheet": what a sheet prints. "The program files and acknowledges in that order, then prints all rows, then `ack`, row
 -- and answer for each press".
-use Prim.Native.Nat.{ℕ, zero, suc, _+_}
+use Prim.Native.Nat.{ℕ, zero, suc, _+_, _*_}
 use mathlib.Core.Path.{_≡_}
 use mathlib.Core.List.{List, [], _∷_, _++_}
 use mathlib.Core.Bool.{cond}
-use lib.ListN.{length, drop}
+use lib.ListN.{length, drop, replicate}
 use lib.Dec.{ltb}
 use Rattle.reader.specs.declared.Answer.{Answer}
 use Rattle.register.specs.declared.Register.{Register}
-use Rattle.register.specs.Calls.{ackOf, askOf}
+use Rattle.register.specs.Calls.{Held, ackOf, askOf}
+use Rattle.answer.specs.Size.{maxSize, words}
 use Rattle.layout.specs.declared.Layout.{Layout}
 use Rattle.layout.specs.declared.Parsed.{Parsed}
 use Rattle.layout.specs.declared.Parsed.the-variants.{Refused, Accepted}
@@ -16,27 +17,33 @@ use Rattle.layout.specs.Layout.{layoutOf, acksFrom}
 use Rattle.deposit.specs.Deposit.{registerOf}
 use Rattle.text.specs.Lines.{header, rowLine, ackLine, refusalLine}
 
--- the rows acknowledged
-unfoldable pub ackedAll : Register → List ℕ → Register
-ackedAll g [] = g
-ackedAll g (row ∷ rows) = ackedAll (ackOf g row .register) rows
+-- the numbers that a sheet's run lends to its register: enough for any size
+abbrev pub ownSets : List ℕ
+ownSets = replicate (maxSize * words) 0
 
--- k rows from this one on, as they are asked
-unfoldable pub rowLines : Register → (k row : ℕ) → List ℕ
-rowLines g zero row = []
-rowLines g (suc k) row = rowLine row (askOf g row) ++ rowLines g k (row + 1)
+module _ (sets : List ℕ) where
+  -- the rows acknowledged
+  unfoldable pub ackedAll : Register → List ℕ → Register
+  ackedAll g [] = g
+  ackedAll g (row ∷ rows) = ackedAll (ackOf g row sets .register) rows
 
--- each press with its answer
-unfoldable pub ackLines : Register → List ℕ → List ℕ
-ackLines g [] = []
-ackLines g (row ∷ rows) = ackLine row (ackOf g row .code) ++ ackLines (ackOf g row .register) rows
+  -- k rows from this one on, as they are asked
+  unfoldable pub rowLines : Register → (k row : ℕ) → List ℕ
+  rowLines g zero row = []
+  rowLines g (suc k) row = rowLine row (askOf g row sets) ++ rowLines g k (row + 1)
+
+  -- each press with its answer
+  unfoldable pub ackLines : Register → List ℕ → List ℕ
+  ackLines g [] = []
+  ackLines g (row ∷ rows) = ackLine row (ackOf g row sets .code) ++ ackLines (ackOf g row sets .register) rows
 
 -- the print of a register with all blobs filed, before the presses
-unfoldable pub printed : Register → List ℕ → List ℕ
-printed g acks = header ++ rowLines (ackedAll g acks) (g .rows) 1 ++ ackLines g acks
+unfoldable pub printed : Held → List ℕ → List ℕ
+printed h acks =
+    header ++ rowLines (h .sets) (ackedAll (h .sets) (h .register) acks) (h .register .rows) 1 ++ ackLines (h .sets) (h .register) acks
 
 abbrev pub acceptedText : List ℕ → Layout → List ℕ
-acceptedText s l = printed (registerOf s l) (acksFrom (l .presses) s (l .acks))
+acceptedText s l = printed (registerOf s l ownSets) (acksFrom (l .presses) s (l .acks))
 
 abbrev pub textFor : List ℕ → Parsed → List ℕ
 textFor s (Refused place) = refusalLine place

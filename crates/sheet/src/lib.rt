@@ -15,9 +15,11 @@ use layout::Layout;
 use layout::Parsed;
 use reader::Answer;
 use register::Register;
+use register::SIZE;
+use register::WORDS;
 
 // What asking row i gives, by these standings and marks.
-fn asked_by(g: Register, standings: &[u32], marks: &[u32], i: usize) -> Asked
+fn asked_by(g: Register, standings: &[u8], marks: &[u8], i: usize) -> Asked
     requires { ⌜ (g .rows ≤ maxSize) × (i < g .rows) × (g .rows ≤ length (now standings)) × (g .rows ≤ length (now marks)) ⌝ }
     ensures { λ r. ⌜ r ≡ askedBy g (now (standings .entry)) (now (marks .entry)) i ⌝ }
 {
@@ -25,7 +27,7 @@ fn asked_by(g: Register, standings: &[u32], marks: &[u32], i: usize) -> Asked
 }
 
 // The lines of all rows.
-fn rows_to(out: &mut [u8], to: usize, g: Register, standings: &[u32], marks: &[u32]) -> usize
+fn rows_to(out: &mut [u8], to: usize, g: Register, standings: &[u8], marks: &[u8]) -> usize
     requires { ⌜ (g .rows ≤ maxSize) × (g .rows ≤ length (now standings)) × (g .rows ≤ length (now marks)) ⌝ }
     ensures { λ r. ⌜ Prints (rowsBy g (now (standings .entry)) (now (marks .entry)) (g .rows) 0) to r (now (out .entry)) (now (out .exit)) ⌝ }
 {
@@ -41,7 +43,7 @@ fn rows_to(out: &mut [u8], to: usize, g: Register, standings: &[u32], marks: &[u
 }
 
 // The header and the lines of all rows.
-fn head_to(out: &mut [u8], to: usize, g: Register, standings: &[u32], marks: &[u32]) -> usize
+fn head_to(out: &mut [u8], to: usize, g: Register, standings: &[u8], marks: &[u8]) -> usize
     requires { ⌜ (g .rows ≤ maxSize) × (g .rows ≤ length (now standings)) × (g .rows ≤ length (now marks)) ⌝ }
     ensures { λ r. ⌜ Prints (header ++ rowsBy g (now (standings .entry)) (now (marks .entry)) (g .rows) 0) to r (now (out .entry)) (now (out .exit)) ⌝ }
 {
@@ -55,8 +57,8 @@ fn size_of(
     g: Register,
     at: usize,
     count: u32,
-    standings: &[u32],
-    marks: &mut [u32],
+    standings: &[u8],
+    marks: &mut [u8],
 ) -> usize
     requires { ⌜ (g .rows ≤ maxSize) × (g .rows ≤ length (now standings)) × (g .rows ≤ length (now marks)) ⌝ }
     ensures { λ r. ⌜ r ≡ further 0 (length (printedBy g (now (standings .entry)) (now (marks .entry)) (acksFrom count (now (s .entry)) at))) ⌝ }
@@ -75,8 +77,8 @@ fn fill(
     g: Register,
     at: usize,
     count: u32,
-    standings: &[u32],
-    marks: &[u32],
+    standings: &[u8],
+    marks: &[u8],
 )
     requires { ⌜ (g .rows ≤ maxSize) × (g .rows ≤ length (now standings)) × (g .rows ≤ length (now marks)) ⌝ }
     ensures { λ _. ⌜ now (out .exit) ≡ laid (now (out .entry)) 0 (header ++ rowsBy g (now (standings .entry)) (now (marks .entry)) (g .rows) 0 ++ pressLines (now (standings .entry)) (g .rows) (g .marks) (acksFrom count (now (s .entry)) at)) ⌝ }
@@ -91,8 +93,9 @@ fn fill(
 fn print(out: &mut [u8], s: &[u8], layout: Layout) -> Answer
     ensures { λ r. ⌜ Runs (acceptedText (now (s .entry)) layout) r (now (out .entry)) (now (out .exit)) ⌝ }
 {
-    let g = deposit::register_of(s, layout);
-    let standings = register::standings(g);
+    let mut sets = [0u32; SIZE * WORDS];
+    let g = deposit::register_of(&mut sets, s, layout);
+    let standings = register::standings(g, &sets);
     let mut marks = g.marks;
     let at = layout.acks;
     let count = layout.presses;

@@ -3,20 +3,21 @@
 use Prim.Native.Nat.{ℕ, zero, suc, _+_, _*_, _<_, _≤_}
 use mathlib.Core.Path.{_≡_, refl, sym, ap, _∙_, subst}
 use mathlib.Core.List.{List}
-use mathlib.Core.Bool.{Bool, true, false, cond, _||_, false≢true}
+use mathlib.Core.Bool.{Bool, true, false, cond, _||_, false≢true, true≢false}
 use mathlib.Core.Logic.{⊎-elim, by-cases}
 use native.Mathlib.Omega.{arith}
 use native.Mathlib.Decide.{ℕ-discrete}
 use native.Mathlib.Nat.{le-refl}
 use native.Mathlib.Numerals.{add-one}
 use lib.ListN.{length, getD, set, length-set}
-use lib.Seq.{getD-set-same, getD-set-other}
+use lib.Seq.{getD-set-same, getD-set-other, set-getD}
 use lib.Dec.{eqb, ltb}
-use borrow.Author.Tests.{lt-ltb, le-ltb, ne-eqb}
+use borrow.Author.Tests.{lt-ltb, le-ltb, ltb-false, ne-eqb}
 use Rattle.reach.specs.Reach.{Graph, thru}
+use Rattle.reach.specs.Closure.{ClosureOf}
 use Rattle.reach.proofs.Bools.{or-left, or-right, or-cases}
 use Rattle.reach.proofs.Reaching.{thru-cong}
-use Rattle.standing.specs.Standing.{any, trouble, leaning, standing, cleared, filled, leansIn, losesIn, standingIn}
+use Rattle.standing.specs.Standing.{any, trouble, leaning, standing, cleared, filled, leansIn, losesIn, markedIn, standingIn}
 use Rattle.bits.specs.Bits.{at}
 
 pub any-intro : (n : ℕ) (p : ℕ → Bool) (j : ℕ) → j < n → p j ≡ true → any n p ≡ true
@@ -43,6 +44,14 @@ pub any-cong : (n : ℕ) (p q : ℕ → Bool) → ((j : ℕ) → j < n → p j �
 unfolding any
 any-cong zero p q e = refl
 any-cong (suc n) p q e = rw (any-cong n p q (λ j h. e j (omega arith)), e n (le-refl (suc n)))
+
+or-none-left : (a b : Bool) → (a || b) ≡ false → a ≡ false
+or-none-left true b h = h
+or-none-left false b h = refl
+
+or-none-right : (a b : Bool) → (a || b) ≡ false → b ≡ false
+or-none-right true b h = absurd (true≢false h)
+or-none-right false b h = h
 
 -- ---- cleared
 pub length-picked : (b : Bool) (l : List ℕ) (n : ℕ) → length (cond b (set l n 0) l) ≡ length l
@@ -96,6 +105,20 @@ getD-cleared l (suc n) p j h k =
     by-cases (ℕ-discrete j n)
     (λ (e : j ≡ n). subst (λ (x : ℕ). getD (cleared l (suc n) p) x 0 ≡ cond (p x) 0 (getD l x 0)) (sym e) (cleared-here l n p k))
     (λ ne. getD-picked-other (p n) (cleared l n p) n j ne ∙ getD-cleared l n p j (omega arith) (omega arith))
+
+-- where no row has a mark, none is taken
+pub cleared-unmarked : (l : List ℕ) (n : ℕ) (p : ℕ → Bool) → any n (markedIn l) ≡ false → cleared l n p ≡ l
+unfolding any cleared
+cleared-unmarked l zero p h = refl
+cleared-unmarked l (suc n) p h =
+    let e = cleared-unmarked l n p (or-none-left (any n (markedIn l)) (markedIn l n) h) in
+    let z = ltb-false 0 (getD l n 0) (or-none-right (any n (markedIn l)) (markedIn l n) h) in
+    let k : getD l n 0 ≡ 0 = omega arith in
+    rw e (same-picked (p n) (ap (set l n) (sym k) ∙ set-getD l n 0))
+  where
+    same-picked : (b : Bool) → set l n 0 ≡ l → cond b (set l n 0) l ≡ l
+    same-picked true q = q
+    same-picked false q = refl
 
 -- ---- filled
 pub length-filled : (l : List ℕ) (n : ℕ) (f : ℕ → ℕ) → length (filled l n f) ≡ length l
@@ -163,17 +186,15 @@ by-state zero x y e = refl
 by-state (suc zero) x y e = refl
 by-state (suc (suc state)) x y e = rw (le-ltb (suc (suc state)) 2 (omega arith), ne-eqb (suc (suc state)) 0 (omega arith), ne-eqb (suc (suc state)) 1 (omega arith)) e
 
-module _ (w n : ℕ) (refs m states : List ℕ) (le : n ≤ 32 * w) (e : (r s : ℕ) → r < n → s < 32 * w → at w m r s ≡ thru (at w refs) n r s) where
-  pub loop-in : (i : ℕ) → i < n → at w m i i ≡ thru (at w refs) n i i
-  loop-in i hi = e i i hi (omega arith)
+module _ (w v n : ℕ) (refs m : List ℕ) (e : ClosureOf w v n refs m) where
+  pub loses-in : (i : ℕ) → i < n → (l : List ℕ) → cleared l n (losesIn w m i) ≡ cleared l n (λ j. eqb j i || thru (at v refs) n j i)
+  loses-in i hi l = cleared-cong l n _ _ (λ j hj. rw (e j i hj hi))
 
-  pub leaning-in : (i : ℕ) → i < n → any n (leansIn w m states i) ≡ leaning n (λ j. getD states j 0) (at w refs) i
-  unfolding leaning trouble
-  leaning-in i hi = any-cong n _ _ (λ j hj. rw (e i j hi (omega arith), e j j hj (omega arith)))
+  module _ (states : List ℕ) where
+    leaning-in : (i : ℕ) → i < n → any n (leansIn w m states i) ≡ leaning n (λ j. getD states j 0) (at v refs) i
+    unfolding leaning trouble
+    leaning-in i hi = any-cong n _ _ (λ j hj. rw (e i j hi hj, e j j hj hj))
 
-  pub loses-in : (i : ℕ) → i < n → (l : List ℕ) → cleared l n (losesIn w m i) ≡ cleared l n (λ j. eqb j i || thru (at w refs) n j i)
-  loses-in i hi l = cleared-cong l n _ _ (λ j hj. rw (e j i hj (omega arith)))
-
-  pub standing-in : (i : ℕ) → i < n → standingIn w m states n i ≡ standing n (λ j. getD states j 0) (at w refs) i
-  unfolding standing standingIn
-  standing-in i hi = by-state (getD states i 0) _ _ (rw (loop-in i hi, leaning-in i hi))
+    pub standing-in : (i : ℕ) → i < n → standingIn w m states n i ≡ standing n (λ j. getD states j 0) (at v refs) i
+    unfolding standing standingIn
+    standing-in i hi = by-state (getD states i 0) _ _ (rw (e i i hi hi, leaning-in i hi))

@@ -41,6 +41,10 @@ leansIn w m states i j = at w m i j && (ltb (getD states j 0) 2 || at w m j j)
 abbrev pub losesIn : ℕ → List ℕ → ℕ → ℕ → Bool
 losesIn w m i j = eqb j i || at w m j i
 
+-- row j has a mark
+abbrev pub markedIn : List ℕ → ℕ → Bool
+markedIn marks j = ltb 0 (getD marks j 0)
+
 -- the standing of row i among n, where m is a closed table
 unfoldable pub standingIn : ℕ → List ℕ → List ℕ → ℕ → ℕ → ℕ
 standingIn w m states n i =

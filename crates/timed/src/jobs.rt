@@ -1,14 +1,17 @@
 // The jobs that are timed.
+ghost use Prim.Native.Nat.{_<_};
+ghost use Rattle.answer.specs.Size.{maxSize};
+use crate::graphs::Graph;
+use crate::graphs::Sets;
+use crate::graphs::type_of;
 use number::checked::Checked;
 use register::Register;
+use register::SIZE;
+use register::WORDS;
 
 const NUMBERS: usize = 10000;
 
 const NUMBER_ROUNDS: usize = 10000;
-
-const ROUNDS: usize = 1000;
-
-const ROWS: usize = 64;
 
 // The sum of the numbers that stand one after the other in a slice, by the step that the reader takes.
 fn sum_of(s: &[u8]) -> u64 {
@@ -35,30 +38,77 @@ pub fn numbers() -> u64 {
     sum
 }
 
-// Files for a row a type that names another row of the 64 by a modifier.
-fn file_naming(g: Register, row: usize, named: u32) -> Register {
-    let token = 4 * (named % 65) + 2;
-    if token < 128 {
-        return register::file(g, row, &[0x20, token as u8, 0x08]).register;
-    }
-    let high = (0x80 + token / 256) as u8;
-    register::file(g, row, &[0x20, high, (token % 256) as u8, 0x08]).register
+// A register after a filing, and where the random numbers stand.
+struct Filed {
+    register: Register,
+    seed: u64,
 }
 
-// A register each of whose rows names the next, and the last the first.
-fn cycle() -> Register {
-    let mut g = register::open(0, 0, ROWS).register;
-    for i in 0..ROWS {
-        g = file_naming(g, i + 1, (i as u32 + 1) % 64 + 1);
+// Files for row i, counted from 0, its type.
+fn file(g: Register, graph: Graph, rows: usize, i: usize, seed: u64, sets: &mut Sets) -> Filed
+    requires { ⌜ i < maxSize ⌝ }
+{
+    let made = type_of(graph, rows, i, seed);
+    let blob = made.blob;
+    let length = made.length;
+    let changed = register::file(g, i + 1, &blob[..length], sets);
+    let register = changed.register;
+    Filed {
+        register,
+        seed: made.seed,
+    }
+}
+
+// A register of so many rows, all filed.
+fn filled(graph: Graph, rows: usize, sets: &mut Sets) -> Register {
+    let mut g = register::open(0, 0, rows, sets).register;
+    let mut seed: u64 = 1;
+    for i in 0..SIZE {
+        if i < rows {
+            let filed = file(g, graph, rows, i, seed, sets);
+            g = filed.register;
+            seed = filed.seed;
+        }
     }
     g
 }
 
-pub fn asks() -> u64 {
-    let g = cycle();
+fn ask(g: Register, row: usize, sets: &Sets) -> u32 {
+    register::ask(g, row, sets).standing
+}
+
+// Asks each row, one after the other.
+fn ask_all(g: Register, sets: &Sets) -> u64 {
     let mut sum: u64 = 0;
-    for i in 0..ROUNDS * ROWS {
-        sum = sum % 0x100000000 + register::ask(g, i % ROWS + 1).standing as u64;
+    for i in 0..SIZE {
+        if i < g.rows {
+            sum = sum % 0x100000000 + ask(g, i + 1, sets) as u64;
+        }
     }
     sum
+}
+
+// Asks each row so many times.
+pub fn asks(graph: Graph, rows: usize, rounds: u32) -> u64 {
+    let mut sets = [0u32; SIZE * WORDS];
+    let g = filled(graph, rows, &mut sets);
+    let mut sum: u64 = 0;
+    for _ in 0..rounds {
+        sum = sum % 0x100000000 + ask_all(g, &sets) % 0x100000000;
+    }
+    sum
+}
+
+// Files each row of 512 once again, each time with row 1 marked, so that the rows that reach the filed one are looked for.
+pub fn files(graph: Graph) -> u64 {
+    let mut sets = [0u32; SIZE * WORDS];
+    let mut g = filled(graph, SIZE, &mut sets);
+    let mut seed: u64 = 1;
+    for i in 0..SIZE {
+        g.marks[0] = 1;
+        let filed = file(g, graph, SIZE, i, seed, &mut sets);
+        g = filed.register;
+        seed = filed.seed;
+    }
+    ask(g, 1, &sets) as u64
 }

@@ -1,19 +1,21 @@
 -- `deposit::file_all` meets its contract. Assumes nothing.
 use borrow.Author.Needs.{needs}
-use mathlib.Core.Path.{_≡_, refl}
+use mathlib.Core.Path.{_≡_, refl, _∙_}
 use native.Mathlib.Omega.{arith}
 use Prim.Native.Nat.{_+_, _≤_}
+use lib.ListN.{length}
 use Rattle.layout.specs.Layout.{blobsFrom}
+use Rattle.register.specs.Calls.{holding}
 use Rattle.deposit.specs.Deposit.{filedAll}
 use Rattle.deposit.proofs.Listed.{blobs-none, blobs-cut, blobs-next, blob-within, filed-none, filed-next}
 use Rattle.deposit.proofs.file_all.Statement.{statement}
 use Rattle.deposit.proofs.file_all.Tie as tie
 
 abbrev Inv-loop : tie.InvT-loop
-Inv-loop s at count register₀ here₀ left₀ row₀ register here left row = (row + left ≤ count + 1) × (filedAll register row (blobsFrom left s here) ≡ filedAll register₀ 1 (blobsFrom count s at))
+Inv-loop sets₀ s at count register₀ here₀ left₀ row₀ sets register here left row = (row + left ≤ count + 1) × (filedAll (holding register sets) row (blobsFrom left s here) ≡ filedAll (holding register₀ sets₀) 1 (blobsFrom count s at)) × (length sets ≡ length sets₀)
 
 abbrev μ-loop : tie.MeasureT-loop
-μ-loop s at count register₀ here₀ left₀ row₀ register here left row = left
+μ-loop sets₀ s at count register₀ here₀ left₀ row₀ sets register here left row = left
 
 pub file-all-spec : {M : Type 1} → statement M
 file-all-spec =
@@ -21,7 +23,7 @@ file-all-spec =
     (tie.spec
     Inv-loop
     μ-loop
-    (λ c. (search needs, refl))
+    (λ c. (search needs, refl, refl))
     (λ c κs. search needs)
     (λ c. search needs)
     (λ c. search needs)
@@ -31,9 +33,11 @@ file-all-spec =
     (λ c. omega (arith, blob-within _ _ (c .before .before .before .blob-at .ensures) (c .before .value .given .1) .1))
     (λ c κs. search needs)
     (λ c. search needs)
-    (λ c. filed-none _ _ _ (c .before .before .before .before .loop .inv .1) (blobs-cut _ _ (c .before .before .blob-at .ensures) _ (c .before .before .before .loop-test .taken) (c .enum-told .given .1)))
+    (λ c. c .before .before .before .before .loop .inv .2)
+    (λ c. filed-none _ _ _ _ (c .before .before .before .before .loop .inv .1) (blobs-cut _ _ (c .before .before .blob-at .ensures) _ (c .before .before .before .loop-test .taken) (c .enum-told .given .1)))
     (λ c. search needs)
-    (λ c. omega (arith, c .before .before .before .before .before .before .before .before .loop .inv .0))
+    (λ c. omega (arith, c .before .before .before .before .before .before .before .before .before .before .before .loop .inv .0))
     (λ c. search needs)
-    (λ c. (omega (arith, c .before .before .before .before .before .before .before .before .loop .inv .0, c .before .before .before .before .before .before .before .loop-test .taken), filed-next _ _ _ (c .before .before .before .before .before .before .before .before .loop .inv .1) _ _ _ _ (blob-within _ _ (c .before .before .before .before .before .before .blob-at .ensures) (c .before .before .before .before .value .given .1) .0) (blobs-next _ _ (c .before .before .before .before .before .before .blob-at .ensures) _ (c .before .before .before .before .before .before .before .loop-test .taken) (c .before .before .before .before .value .given .1)) _ (c .before .file .ensures)))
-    (λ c. filed-none _ _ _ (c .before .loop .inv .1) (blobs-none _ _ _ (c .loop-test .left))))
+    (λ c. (omega (arith, c .before .before .before .before .before .before .before .before .before .before .before .loop .inv .0, c .before .before .before .before .before .before .before .before .before .before .loop-test .taken), filed-next _ _ _ _ (c .before .before .before .before .before .before .before .before .before .before .before .loop .inv .1) _ _ _ _ (blob-within _ _ (c .before .before .before .before .before .before .before .before .before .blob-at .ensures) (c .before .before .before .before .before .before .before .value .given .1) .0) (blobs-next _ _ (c .before .before .before .before .before .before .before .before .before .blob-at .ensures) _ (c .before .before .before .before .before .before .before .before .before .before .loop-test .taken) (c .before .before .before .before .before .before .before .value .given .1)) _ _ (c .before .before .before .file .ensures), c .before .before .before .file .kept .1 .1 .1 .0 ∙ c .before .before .before .before .before .before .before .before .before .before .before .loop .inv .2))
+    (λ c. c .before .loop .inv .2)
+    (λ c. filed-none _ _ _ _ (c .before .loop .inv .1) (blobs-none _ _ _ (c .loop-test .left))))

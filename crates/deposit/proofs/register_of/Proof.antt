@@ -14,4 +14,5 @@ register-of-spec =
     (λ c. search needs)
     (λ c κs. search needs)
     (λ c κs. search needs)
-    (λ c. register-is _ _ (c .before .before .before .before .value-at .ensures) (c .before .before .before .next-at .ensures) (c .before .before .value-at2 .ensures) (c .before .open .ensures) (c .file-all .ensures)))
+    (λ c. search needs)
+    (λ c. register-is _ _ _ _ (c .before .before .before .before .before .before .before .before .before .before .value-at .ensures) (c .before .before .before .before .before .before .before .before .before .next-at .ensures) (c .before .before .before .before .before .before .before .before .value-at2 .ensures) (c .before .before .before .before .before .before .open .ensures) (c .before .before .file-all .ensures)))

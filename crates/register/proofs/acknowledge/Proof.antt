@@ -22,6 +22,6 @@ acknowledge-spec =
     (tie.spec
     (λ c κs. search needs)
     returns
-    (λ c. let h = gate-ok _ _ (sym (c .before .admit .ensures) ∙ c .if1 .left) in omega arith)
-    (λ c κs. let h = gate-ok _ _ (sym (c .before .admit .ensures) ∙ c .if1 .left) in omega arith)
+    (λ c. let h = gate-ok _ _ _ (sym (c .before .admit .ensures) ∙ c .if1 .left) in omega arith)
+    (λ c κs. let h = gate-ok _ _ _ (sym (c .before .admit .ensures) ∙ c .if1 .left) in omega arith)
     returns-2)

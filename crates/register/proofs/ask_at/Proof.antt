@@ -15,8 +15,5 @@ ask-at-spec =
     (λ c. search needs)
     (λ c. search needs)
     (λ c. search needs)
-    (λ c. search needs)
-    (λ c. search needs)
-    (λ c. search needs)
     (λ c κs. search needs)
     (λ c. rw (← c .before .before .before .before .before .standing-at .ensures) (c .asked-of .ensures)))

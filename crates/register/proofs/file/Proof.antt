@@ -1,9 +1,9 @@
 -- `register::file` meets its contract. Assumes nothing.
 use borrow.Author.Needs.{needs}
 use borrow.Author.Tests.{eq-eqb, ne-eqb}
-use mathlib.Core.Path.{sym, ap, _∙_}
+use mathlib.Core.Path.{sym, ap₂, _∙_}
 use native.Mathlib.Omega.{arith}
-use Rattle.register.specs.Calls.{fileOf, changed}
+use Rattle.register.specs.Calls.{fileOf, changed, left}
 use Rattle.answer.proofs.Gates.{gate-ok}
 use Rattle.register.proofs.file.Statement.{statement}
 use Rattle.register.proofs.file.Tie as tie
@@ -14,7 +14,7 @@ returns c = simp (← c .before .admit .ensures, ne-eqb _ _ (c .if1 .taken))
 
 returns-2 : tie.Need-returns-2
 unfolding fileOf
-returns-2 c = simp (← c .before .before .admit .ensures, eq-eqb _ _ (c .before .if1 .left)) (ap (changed 0) (c .file-at .ensures))
+returns-2 c = simp (← c .before .before .before .before .before .admit .ensures, eq-eqb _ _ (c .before .before .before .before .if1 .left)) (ap₂ (λ x l. left (changed 0 x) l) (c .before .before .file-at .ensures .0) (c .before .before .file-at .ensures .1))
 
 pub file-spec : {M : Type 1} → statement M
 file-spec =
@@ -22,6 +22,7 @@ file-spec =
     (tie.spec
     (λ c κs. search needs)
     returns
-    (λ c. let h = gate-ok _ _ (sym (c .before .admit .ensures) ∙ c .if1 .left) in omega arith)
-    (λ c κs. let h = gate-ok _ _ (sym (c .before .admit .ensures) ∙ c .if1 .left) in omega arith)
+    (λ c. let h = gate-ok _ _ _ (sym (c .before .admit .ensures) ∙ c .if1 .left) in omega arith)
+    (λ c κs. let h = gate-ok _ _ _ (sym (c .before .before .admit .ensures) ∙ c .before .if1 .left) in omega arith)
+    (λ c. search needs)
     returns-2)

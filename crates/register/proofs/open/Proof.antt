@@ -1,42 +1,32 @@
 -- `register::open` meets its contract. Assumes nothing.
 use borrow.Author.Needs.{needs}
-use borrow.Author.Tests.{lt-ltb, le-ltb, eq-eqb, ne-eqb}
-use mathlib.Core.Path.{ap}
-use Rattle.register.specs.Calls.{openOf, changed}
+use borrow.Author.Tests.{eq-eqb, ne-eqb}
+use mathlib.Core.Path.{sym, ap, ap₂, _∙_}
+use native.Mathlib.Omega.{arith}
+use denote.Ref.{now}
+use Rattle.register.specs.Calls.{openOf, changed, left}
+use Rattle.register.specs.declared.Register.{Register}
+use Rattle.register.proofs.Openings.{open-ok}
 use Rattle.register.proofs.open.Statement.{statement}
 use Rattle.register.proofs.open.Tie as tie
 
 returns : tie.Need-returns
 unfolding openOf
-returns c = simp (lt-ltb _ _ (c .before .if1 .taken)) (c .refused-opening .ensures)
+returns c = simp (← c .before .before .opening-code .ensures, ne-eqb _ _ (c .before .if1 .taken)) (ap (λ (x : Register). left (changed (c .before .before .opening-code .result) x) (now (c .before .before .before .before .args .sets))) (c .blank-register .ensures))
 
 returns-2 : tie.Need-returns-2
 unfolding openOf
-returns-2 c = simp (le-ltb _ _ (c .before .before .if1 .left), lt-ltb _ _ (c .before .if2 .taken)) (c .refused-opening2 .ensures)
-
-returns-3 : tie.Need-returns-3
-unfolding openOf
-returns-3 c = simp (le-ltb _ _ (c .before .before .before .if1 .left), le-ltb _ _ (c .before .before .if2 .left), eq-eqb _ _ (c .before .if3 .taken)) (c .refused-opening3 .ensures)
-
-returns-4 : tie.Need-returns-4
-unfolding openOf
-returns-4 c = simp (le-ltb _ _ (c .before .before .before .before .if1 .left), le-ltb _ _ (c .before .before .before .if2 .left), ne-eqb _ _ (c .before .before .if3 .left), lt-ltb _ _ (c .before .if4 .taken)) (c .refused-opening4 .ensures)
-
-returns-5 : tie.Need-returns-5
-unfolding openOf
-returns-5 c = simp (le-ltb _ _ (c .before .before .before .before .if1 .left), le-ltb _ _ (c .before .before .before .if2 .left), ne-eqb _ _ (c .before .before .if3 .left), le-ltb _ _ (c .before .if4 .left)) (ap (changed 0) (c .blank-register .ensures))
+returns-2 c = simp (← c .before .before .before .before .before .before .opening-code .ensures, eq-eqb _ _ (c .before .before .before .before .before .if1 .left)) (ap₂ (λ x l. left (changed 0 x) l) (c .blank-register2 .ensures) (c .before .before .before .clear .ensures))
 
 pub open-spec : {M : Type 1} → statement M
 open-spec =
     tie.close
     (tie.spec
     (λ c κs. search needs)
+    (λ c κs. search needs)
     returns
+    (λ c. let h = open-ok _ _ _ _ (sym (c .before .before .opening-code .ensures) ∙ c .before .if1 .left) in omega arith)
+    (λ c κs. let h = open-ok _ _ _ _ (sym (c .before .before .opening-code .ensures) ∙ c .before .if1 .left) in omega arith)
     (λ c κs. search needs)
-    returns-2
-    (λ c κs. search needs)
-    returns-3
-    (λ c κs. search needs)
-    returns-4
-    (λ c κs. search needs)
-    returns-5)
+    (λ c. search needs)
+    returns-2)

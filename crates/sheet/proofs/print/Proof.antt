@@ -17,14 +17,16 @@ pub print-spec : {M : Type 1} → statement M
 print-spec =
     tie.close
     (tie.spec
+    (λ c. search needs)
     (λ c κs. search needs)
+    (λ c. search needs)
     (λ c κs. search needs)
     (λ c. search needs)
     (λ c. search needs)
-    (λ c κs. let hs : length (c .before .before .before .standings .result) ≡ maxSize = search needs in let hm : length (c .before .before .before .before .register-of .result .marks) ≡ maxSize = search needs in let h = rows-fit _ _ (c .before .before .before .before .register-of .ensures) in (h, omega (arith, h, hs), omega (arith, h, hm)))
-    (λ c. print-short _ _ (c .before .before .before .before .before .before .before .register-of .ensures) (c .before .before .before .before .before .before .standings .ensures) (few (c .before .before .before .before .before .before .before .before .before .before)) (c .before .before .size-of .ensures .0) _ (c .if1 .taken))
+    (λ c κs. let hs : length (c .before .before .before .standings .result) ≡ maxSize = search needs in let hm : length (c .before .before .before .before .before .before .register-of .result .marks) ≡ maxSize = search needs in let h = rows-fit _ _ (c .before .before .before .before .before .before .register-of .ensures) in (h, omega (arith, h, hs), omega (arith, h, hm)))
+    (λ c. print-short _ _ (c .before .before .before .before .before .before .before .before .before .register-of .ensures) (c .before .before .before .before .before .before .standings .ensures) (few (c .before .before .before .before .before .before .before .before .before .before .before .before .before)) (c .before .before .size-of .ensures .0) _ (c .if1 .taken))
     (λ c. search needs)
     (λ c. search needs)
-    (λ c κs. let hs : length (c .before .before .before .before .before .before .before .before .before .standings .result) ≡ maxSize = search needs in let hm : length (c .before .before .before .before .before .before .before .before .before .before .register-of .result .marks) ≡ maxSize = search needs in let h = rows-fit _ _ (c .before .before .before .before .before .before .before .before .before .before .register-of .ensures) in (h, omega (arith, h, hs), omega (arith, h, hm, ap length (c .before .before .before .before .before .size-of .ensures .1) ∙ length-presses _ _ _ _)))
+    (λ c κs. let hs : length (c .before .before .before .before .before .before .before .before .before .standings .result) ≡ maxSize = search needs in let hm : length (c .before .before .before .before .before .before .before .before .before .before .before .before .register-of .result .marks) ≡ maxSize = search needs in let h = rows-fit _ _ (c .before .before .before .before .before .before .before .before .before .before .before .before .register-of .ensures) in (h, omega (arith, h, hs), omega (arith, h, hm, ap length (c .before .before .before .before .before .size-of .ensures .1) ∙ length-presses _ _ _ _)))
     (λ c. search needs)
-    (λ c. print-fits _ _ (c .before .before .before .before .before .before .before .before .before .before .before .before .before .register-of .ensures) (c .before .before .before .before .before .before .before .before .before .before .before .before .standings .ensures) (few (c .before .before .before .before .before .before .before .before .before .before .before .before .before .before .before .before)) (c .before .before .before .before .before .before .before .before .size-of .ensures .0) _ (c .before .before .before .before .before .before .if1 .left) (c .before .before .before .before .before .before .before .before .size-of .ensures .1) (c .before .before .fill .ensures)))
+    (λ c. print-fits _ _ (c .before .before .before .before .before .before .before .before .before .before .before .before .before .before .before .register-of .ensures) (c .before .before .before .before .before .before .before .before .before .before .before .before .standings .ensures) (few (c .before .before .before .before .before .before .before .before .before .before .before .before .before .before .before .before .before .before .before)) (c .before .before .before .before .before .before .before .before .size-of .ensures .0) _ (c .before .before .before .before .before .before .if1 .left) (c .before .before .before .before .before .before .before .before .size-of .ensures .1) (c .before .before .fill .ensures)))

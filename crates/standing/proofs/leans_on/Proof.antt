@@ -15,7 +15,6 @@ leans-on-spec =
     (tie.spec
     (λ c κs. search needs)
     (λ c. search needs)
-    (λ c. search needs)
     (λ c. rw (sym (c .before .before .before .get .ensures) ∙ c .before .before .if1 .taken, lt-ltb _ _ (c .if2 .taken)))
     (λ c κs. search needs)
     returns-2

@@ -12,7 +12,6 @@ standing-of-spec =
     tie.close
     (tie.spec
     (λ c. search needs)
-    (λ c. search needs)
     (λ c. let a = c .before .before .before .before .args in stands-unaccepted _ (now (a .m)) (now (a .states)) (a .n) (a .i) (c .if1 .taken))
     (λ c κs. let a = c .before .before .before .before .args in omega (arith, row-in (a .n) (a .w) (a .i) (c .before .before .before .before .pre .3)))
     (λ c. let a = c .before .before .before .before .before .before .args in stands-loop _ (now (a .m)) (now (a .states)) (a .n) (a .i) (c .before .before .if1 .left) (c .before .get .ensures) (c .if2 .taken))

@@ -25,7 +25,6 @@ standings-of-spec =
     μ-loop
     (λ c. (search needs, filled-none _ _))
     (λ c κs. search needs)
-    (λ c. search needs)
     (λ c. omega (arith, ap length (c .before .before .loop .inv .1) ∙ length-filled _ _ _))
     (λ c. search needs)
     (λ c. search needs)

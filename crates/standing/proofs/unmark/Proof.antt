@@ -55,7 +55,6 @@ unmark-spec =
     μ-loop
     (λ c. (search needs, cleared-none _ _))
     loses-requires
-    (λ c. search needs)
     slice-write-marks
     (λ c. search needs)
     (λ c. search needs)

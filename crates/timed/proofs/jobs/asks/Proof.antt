@@ -5,10 +5,10 @@ use Rattle.timed.proofs.jobs.asks.Statement.{statement}
 use Rattle.timed.proofs.jobs.asks.Tie as tie
 
 abbrev Inv-loop : tie.InvT-loop
-Inv-loop g sum₀ i₀ sum i = i ≤ 64000
+Inv-loop rows rounds sets g sum₀ counter₀ sum counter = counter ≤ rounds
 
 abbrev μ-loop : tie.MeasureT-loop
-μ-loop g sum₀ i₀ sum i = 64000 - i
+μ-loop rows rounds sets g sum₀ counter₀ sum counter = rounds - counter
 
 pub asks-spec : {M : Type 1} → statement M
 asks-spec =
@@ -18,9 +18,7 @@ asks-spec =
     μ-loop
     (λ c κs. search needs)
     (λ c. search needs)
-    (λ c. search needs)
     (λ c κs. search needs)
-    (λ c. search needs)
     (λ c. search needs)
     (λ c. search needs)
     (λ c. search needs)

@@ -1,17 +1,17 @@
--- `timed::jobs::cycle` meets its contract: the loop ends. Assumes nothing.
+-- `timed::jobs::files` meets its contract: the loop ends. Assumes nothing.
 use borrow.Author.Needs.{needs}
 use Prim.Native.Nat.{_≤_, _-_}
-use Rattle.timed.proofs.jobs.cycle.Statement.{statement}
-use Rattle.timed.proofs.jobs.cycle.Tie as tie
+use Rattle.timed.proofs.jobs.files.Statement.{statement}
+use Rattle.timed.proofs.jobs.files.Tie as tie
 
 abbrev Inv-loop : tie.InvT-loop
-Inv-loop g₀ i₀ g i = i ≤ 64
+Inv-loop graph sets₀ g₀ seed₀ i₀ sets g seed i = i ≤ 512
 
 abbrev μ-loop : tie.MeasureT-loop
-μ-loop g₀ i₀ g i = 64 - i
+μ-loop graph sets₀ g₀ seed₀ i₀ sets g seed i = 512 - i
 
-pub cycle-spec : {M : Type 1} → statement M
-cycle-spec =
+pub files-spec : {M : Type 1} → statement M
+files-spec =
     tie.close
     (tie.spec
     Inv-loop
@@ -19,11 +19,10 @@ cycle-spec =
     (λ c κs. search needs)
     (λ c. search needs)
     (λ c. search needs)
+    (λ c κs. search needs)
     (λ c. search needs)
     (λ c. search needs)
     (λ c. search needs)
     (λ c κs. search needs)
-    (λ c. search needs)
-    (λ c. search needs)
     (λ c. search needs)
     (λ c. search needs))

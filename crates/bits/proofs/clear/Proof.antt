@@ -1,6 +1,6 @@
--- `bits::empty` meets its contract. Assumes nothing.
+-- `bits::clear` meets its contract. Assumes nothing.
 use borrow.Author.Needs.{needs}
-use Prim.Native.Nat.{ℕ, _+_, _≤_, _-_, _*_}
+use Prim.Native.Nat.{ℕ, _+_, _≤_, _-_}
 use native.Mathlib.Omega.{arith}
 use mathlib.Core.Path.{_≡_, ap, _∙_, subst}
 use mathlib.Core.List.{List}
@@ -8,34 +8,33 @@ use lib.ListN.{length, set}
 use denote.Ref.{now}
 use Rattle.bits.specs.Bits.{zeroed}
 use Rattle.bits.proofs.BitLaws.{zeroed-none, zeroed-more, length-zeroed}
-use Rattle.bits.proofs.empty.Statement.{statement}
-use Rattle.bits.proofs.empty.Tie as tie
+use Rattle.bits.proofs.clear.Statement.{statement}
+use Rattle.bits.proofs.clear.Tie as tie
 
 abbrev Inv-loop : tie.InvT-loop
-Inv-loop m₀ w r d x₀ m x = (x ≤ w) × (m ≡ zeroed m₀ (r * w) x)
+Inv-loop m₀ d n x₀ m x = (x ≤ n) × (m ≡ zeroed m₀ d x)
 
 abbrev μ-loop : tie.MeasureT-loop
-μ-loop m₀ w r d x₀ m x = w - x
+μ-loop m₀ d n x₀ m x = n - x
 
 loop-again : tie.Need-loop-again Inv-loop μ-loop
 loop-again c =
     let a = c .before .before .args in
     let x = c .before .loop .x in
-    (search needs, ap (λ (l : List ℕ). set l (a .r * a .w + x) 0) (c .before .loop .inv .1) ∙ zeroed-more (now (a .m)) (a .r * a .w) x)
+    (search needs, ap (λ (l : List ℕ). set l (a .d + x) 0) (c .before .loop .inv .1) ∙ zeroed-more (now (a .m)) (a .d) x)
 
 returns : tie.Need-returns Inv-loop μ-loop
 returns c =
     let a = c .before .before .args in
-    let e : c .before .loop .x ≡ a .w = omega arith in
-    subst (λ (x : ℕ). c .before .loop .m ≡ zeroed (now (a .m)) (a .r * a .w) x) e (c .before .loop .inv .1)
+    let e : c .before .loop .x ≡ a .n = omega arith in
+    subst (λ (x : ℕ). c .before .loop .m ≡ zeroed (now (a .m)) (a .d) x) e (c .before .loop .inv .1)
 
-pub empty-spec : {M : Type 1} → statement M
-empty-spec =
+pub clear-spec : {M : Type 1} → statement M
+clear-spec =
     tie.close
     (tie.spec
     Inv-loop
     μ-loop
-    (λ c. search needs)
     (λ c. (search needs, zeroed-none _ _))
     (λ c. search needs)
     (λ c. search needs)

@@ -1,0 +1,44 @@
+-- `reach::copy_words` meets its contract. Assumes nothing.
+use borrow.Author.Needs.{needs}
+use Prim.Native.Nat.{ℕ, _≤_, _-_}
+use native.Mathlib.Omega.{arith}
+use mathlib.Core.Path.{_≡_, subst}
+use denote.Ref.{now}
+use Rattle.reach.specs.Closing.{Copied}
+use Rattle.reach.proofs.Closures.{copied-none, copied-more}
+use Rattle.reach.proofs.copy_words.Statement.{statement}
+use Rattle.reach.proofs.copy_words.Tie as tie
+
+abbrev Inv-loop : tie.InvT-loop
+Inv-loop m₀ from d s w x₀ m x = (x ≤ w) × Copied m₀ from d s x m
+
+abbrev μ-loop : tie.MeasureT-loop
+μ-loop m₀ from d s w x₀ m x = w - x
+
+loop-again : tie.Need-loop-again Inv-loop μ-loop
+loop-again c = (search needs, copied-more _ (c .before .before .loop .inv .1) (c .before .loop-test .taken) (c .before .before .before .pre .0))
+
+returns : tie.Need-returns Inv-loop μ-loop
+returns c =
+    let a = c .before .before .args in
+    let e : c .before .loop .x ≡ a .w = omega arith in
+    subst (λ (x : ℕ). Copied (now (a .m)) (now (a .from)) (a .d) (a .s) x (c .before .loop .m)) e (c .before .loop .inv .1)
+
+pub copy-words-spec : {M : Type 1} → statement M
+copy-words-spec =
+    tie.close
+    (tie.spec
+    Inv-loop
+    μ-loop
+    (λ c. (search needs, copied-none _ _ _ _))
+    (λ c. search needs)
+    (λ c. search needs)
+    (λ c. search needs)
+    (λ c. search needs)
+    (λ c. search needs)
+    (λ c. search needs)
+    (λ c. search needs)
+    (λ c. search needs)
+    loop-again
+    (λ c. search needs)
+    returns)
