@@ -1,4 +1,4 @@
-// An independent implementation of document 01 and what is needed to hold the proved archive against it.
+// An independent implementation of document 01 and of document 02's request 8, and what is needed to hold the proved archive against it.
 
 #![deny(unsafe_code)]
 

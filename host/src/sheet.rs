@@ -2,7 +2,7 @@
 
 mod model;
 
-pub use model::{Asked, Model, BAD, CLEAN, EMPTY, LEANS, LOOP};
+pub use model::{Asked, Model, BAD, CLEAN, EMPTY, LEANS, LOOP, MOST_SIZE};
 
 use crate::reference::{decode, MOST_ROWS};
 use std::fmt::Write;
@@ -66,7 +66,7 @@ fn parse(bytes: &[u8]) -> Result<Sheet<'_>, usize> {
     let type_defs = cursor.ruled(0, MOST_ROWS)?;
     let type_refs = cursor.ruled(0, MOST_ROWS)?;
     let mut blobs = Vec::new();
-    for _ in 0..cursor.ruled(1, 64)? {
+    for _ in 0..cursor.ruled(1, MOST_SIZE)? {
         blobs.push(cursor.blob()?);
     }
     let mut presses = Vec::new();
@@ -84,20 +84,16 @@ fn parse(bytes: &[u8]) -> Result<Sheet<'_>, usize> {
     })
 }
 
+/// All filings come before all presses, so that one check serves every press and every row.
 fn print(sheet: &Sheet) -> String {
-    let size = sheet.blobs.len() as u32;
-    let (mut model, _) = Model::open(sheet.type_defs, sheet.type_refs, size);
-    for (row, blob) in (1..).zip(&sheet.blobs) {
-        model.file(row, blob);
-    }
-    let answers: Vec<u32> = sheet
-        .presses
-        .iter()
-        .map(|&row| model.acknowledge(row))
-        .collect();
+    let mut rows = Model::filed(sheet.type_defs, sheet.type_refs, &sheet.blobs).ask_all();
+    let mut press = |row: u32| match rows.get_mut((row as usize).wrapping_sub(1)) {
+        Some(asked) => asked.press(),
+        None => 16,
+    };
+    let answers: Vec<u32> = sheet.presses.iter().map(|&row| press(row)).collect();
     let mut text = String::from("row standing code place mark\n");
-    for row in 1..=size {
-        let asked = model.ask(row);
+    for (row, asked) in (1..).zip(&rows) {
         let standing = NAMES[asked.standing as usize];
         let (finding, place, mark) = (asked.finding, asked.place, asked.mark);
         writeln!(text, "{row} {standing} {finding} {place} {mark}").expect("a string takes all");

@@ -1,6 +1,6 @@
-// The sheet example, the register's worked row, and the sheet's refusals.
+// The sheet example, the register's worked row, what openings answer, and the sheet's refusals.
 
-use host::sheet::{run_sheet, Model, BAD, CLEAN, EMPTY, LEANS, LOOP};
+use host::sheet::{run_sheet, Asked, Model, BAD, CLEAN, EMPTY, LEANS, LOOP};
 
 const SHEET: [u8; 17] = [
     0x02, 0x00, 0x00, 0x03, 0x04, 0x0F, 0x20, 0x0A, 0x08, 0x01, 0x10, 0x03, 0x20, 0x0E, 0x08, 0x01,
@@ -21,6 +21,18 @@ fn standing_and_mark(model: &Model, row: u32) -> (u32, u32) {
     (asked.standing, asked.mark)
 }
 
+/// What asking gives, as code, standing, finding, place, mark.
+fn asked(model: &Model, row: u32) -> [u32; 5] {
+    let Asked {
+        code,
+        standing,
+        finding,
+        place,
+        mark,
+    } = model.ask(row);
+    [code, standing, finding, place, mark]
+}
+
 #[test]
 fn example() {
     let printed =
@@ -30,7 +42,7 @@ fn example() {
 
 #[test]
 fn bench_row() {
-    let (mut model, code) = Model::open(0, 0, 3);
+    let (mut model, code) = Model::open(0, 0, 3, 48);
     assert_eq!(code, 0);
     assert_eq!(standing_and_mark(&model, 1), (EMPTY, 0));
     assert_eq!(model.file(1, &[0x0F, 0x20, 0x0A, 0x08]), 0);
@@ -51,19 +63,85 @@ fn bench_row() {
     assert_eq!(model.ask(0).code, 16);
 }
 
+/// 13 before 19 before 27, and 16 numbers for each row whatever the size.
 #[test]
 fn openings() {
-    assert_eq!(Model::open(0x100_0000, 0, 0).1, 13);
-    assert_eq!(Model::open(0, 0x100_0000, 3).1, 13);
-    assert_eq!(Model::open(0, 0, 0).1, 19);
-    assert_eq!(Model::open(0, 0, 65).1, 19);
-    assert_eq!(Model::open(0xFF_FFFF, 0xFF_FFFF, 64).1, 0);
-    assert_eq!(Model::open(0, 0, 65).0.acknowledge(1), 16);
+    let cases = [
+        (0x100_0000, 0, 0, 0, 13),
+        (0, 0x100_0000, 3, 48, 13),
+        (0x100_0000, 0, 513, 0, 13),
+        (0, 0x100_0000, 513, 0, 13),
+        (0, 0, 0, 0, 19),
+        (0, 0, 513, 0, 19),
+        (0, 0, 513, usize::MAX, 19),
+        (0, 0, u32::MAX, usize::MAX, 19),
+        (0, 0, 1, 15, 27),
+        (0, 0, 1, 16, 0),
+        (0, 0, 3, 47, 27),
+        (0, 0, 3, 48, 0),
+        (0, 0, 65, 1039, 27),
+        (0, 0, 65, 1040, 0),
+        (0, 0, 512, 0, 27),
+        (0, 0, 512, 8191, 27),
+        (0, 0, 512, 8192, 0),
+        (0xFF_FFFF, 0xFF_FFFF, 512, usize::MAX, 0),
+    ];
+    for (type_defs, type_refs, size, lent, answer) in cases {
+        let (model, code) = Model::open(type_defs, type_refs, size, lent);
+        assert_eq!(code, answer, "{size} rows, {lent} lent");
+        let first = if code == 0 { 0 } else { 16 };
+        assert_eq!(asked(&model, 1), [first, 0, 0, 0, 0]);
+    }
+}
+
+/// After its opening a model that has no rows answers 16, never 27.
+#[test]
+fn refused_openings_have_no_rows() {
+    for (size, lent) in [(3, 47), (513, 0), (0, 0)] {
+        let (mut model, _) = Model::open(0, 0, size, lent);
+        assert_eq!(asked(&model, 1), [16, 0, 0, 0, 0]);
+        assert_eq!(model.file(1, &[0x08]), 16);
+        assert_eq!(model.acknowledge(1), 16);
+        assert_eq!(model.ask_all(), []);
+    }
+}
+
+#[test]
+fn the_last_of_512_rows() {
+    let (mut model, _) = Model::open(0, 0, 512, 8192);
+    assert_eq!(model.file(512, &[0x20, 0x88, 0x02, 0x08]), 0);
+    assert_eq!(asked(&model, 512), [0, LOOP, 0, 0, 0]);
+    assert_eq!(asked(&model, 513), [16, 0, 0, 0, 0]);
+    assert_eq!(model.acknowledge(512), 0);
+    assert_eq!(asked(&model, 512), [0, LOOP, 0, 0, 1]);
+    assert_eq!(model.file(513, &[0x08]), 16);
+    assert_eq!(model.acknowledge(513), 16);
+}
+
+#[test]
+fn a_row_above_the_size_is_no_row() {
+    for (size, answer) in [(2, [0, BAD, 8, 1, 0]), (3, [0, LEANS, 0, 0, 0])] {
+        let (mut model, _) = Model::open(0, 0, size, size as usize * 16);
+        assert_eq!(model.file(1, &[0x20, 0x0E, 0x08]), 0);
+        assert_eq!(asked(&model, 1), answer);
+    }
+}
+
+/// A filing that is bad is a filing: the row has no references any more.
+#[test]
+fn a_bad_blob_names_nothing() {
+    let (mut model, _) = Model::open(0, 0, 2, 32);
+    assert_eq!(model.file(1, &[0x20, 0x06, 0x08]), 0);
+    assert_eq!(asked(&model, 1), [0, LOOP, 0, 0, 0]);
+    assert_eq!(model.file(1, &[0x10]), 0);
+    assert_eq!(asked(&model, 1), [0, BAD, 5, 0, 0]);
+    assert_eq!(model.file(2, &[0x20, 0x06, 0x08]), 0);
+    assert_eq!(asked(&model, 2), [0, LEANS, 0, 0, 0]);
 }
 
 #[test]
 fn a_row_that_leads_into_a_cycle_leans() {
-    let (mut model, _) = Model::open(0, 0, 4);
+    let (mut model, _) = Model::open(0, 0, 4, 64);
     for (row, named) in [(1, 2), (2, 3), (3, 2), (4, 4)] {
         model.file(row, &[0x1F, named * 4 + 2, 0x08]);
     }
@@ -74,13 +152,19 @@ fn a_row_that_leads_into_a_cycle_leans() {
 #[test]
 fn refusals() {
     refused(&[0x08; 65_537], 65_536);
+    refused(&[0xFF; 65_537], 65_536);
+    refused(&[0xFF; 65_536], 0);
     refused(&[], 0);
     refused(&[0x03], 0);
     refused(&[0x02, 0xE0], 1);
     refused(&[0x02, 0xC1, 0x00, 0x00, 0x00], 1);
     refused(&[0x02, 0x00, 0x80, 0x01], 2);
     refused(&[0x02, 0x00, 0x00, 0x00], 3);
-    refused(&[0x02, 0x00, 0x00, 0x41], 3);
+    refused(&[0x02, 0x00, 0x00, 0x00, 0x00], 3);
+    refused(&[0x02, 0x00, 0x00, 0x41], 4);
+    refused(&[0x02, 0x00, 0x00, 0x80, 0x41], 3);
+    refused(&[0x02, 0x00, 0x00, 0x82, 0x00], 5);
+    refused(&[0x02, 0x00, 0x00, 0x82, 0x01], 3);
     refused(&[0x02, 0x00, 0x00, 0x01, 0x02, 0x08], 4);
     refused(&[0x02, 0x00, 0x00, 0x01, 0x01, 0x08], 6);
     refused(&[0x02, 0x00, 0x00, 0x01, 0x01, 0x08, 0x01], 7);
@@ -94,4 +178,22 @@ fn a_long_blob_is_bad_and_no_sheet_fault() {
     sheet.extend([0x02, 0x01, 0xDF, 0xFF, 0xFF, 0xFF]);
     let printed = "row standing code place mark\n1 BAD 1 0 1\nack 1 0\nack 536870911 16\n";
     assert_eq!(text(&sheet), printed);
+}
+
+/// Each example of the repository prints what stands beside it.
+#[test]
+fn examples() {
+    let mut sheets = 0;
+    for entry in std::fs::read_dir("../examples").unwrap() {
+        let path = entry.unwrap().path();
+        if path
+            .extension()
+            .is_some_and(|extension| extension == "sheet")
+        {
+            let printed = std::fs::read_to_string(path.with_extension("txt")).unwrap();
+            assert_eq!(text(&std::fs::read(&path).unwrap()), printed, "{path:?}");
+            sheets += 1;
+        }
+    }
+    assert!(sheets > 5);
 }

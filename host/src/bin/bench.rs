@@ -406,7 +406,7 @@ mod jobs {
 
     /// Each row names the next, and the last the first.
     fn cycle() -> Model {
-        let (mut model, _) = Model::open(0, 0, ROWS);
+        let (mut model, _) = Model::open(0, 0, ROWS, ROWS as usize * 16);
         for row in 1..=ROWS {
             model.file(row, &naming(row % ROWS + 1));
         }

@@ -8,7 +8,9 @@ pub const LOOP: u32 = 2;
 pub const LEANS: u32 = 3;
 pub const CLEAN: u32 = 4;
 
-const MOST_SIZE: u32 = 64;
+pub const MOST_SIZE: u32 = 512;
+/// How many numbers are to be lent for each row's set of references, whatever the size.
+const SET: usize = 16;
 
 #[derive(Clone, Copy, Debug, Default, PartialEq, Eq)]
 pub struct Asked {
@@ -17,6 +19,20 @@ pub struct Asked {
     pub finding: u32,
     pub place: u32,
     pub mark: u32,
+}
+
+impl Asked {
+    /// A press on a row that is there: 17, 18, or 0 and the row has a mark.
+    pub fn press(&mut self) -> u32 {
+        match (self.standing, self.mark) {
+            (EMPTY | CLEAN, _) => 17,
+            (_, 1) => 18,
+            _ => {
+                self.mark = 1;
+                0
+            }
+        }
+    }
 }
 
 #[derive(Clone, Debug)]
@@ -39,12 +55,22 @@ enum Finding {
     Names(Vec<usize>),
 }
 
+impl Finding {
+    fn names(&self) -> &[usize] {
+        match self {
+            Finding::Names(names) => names,
+            _ => &[],
+        }
+    }
+}
+
 impl Model {
-    /// The model and what its opening answers: 13, 19 or 0.
-    pub fn open(type_defs: u32, type_refs: u32, size: u32) -> (Model, u32) {
-        let code = match (type_defs.max(type_refs), size) {
-            (rows, _) if rows > MOST_ROWS => 13,
-            (_, 1..=MOST_SIZE) => 0,
+    /// The model and what its opening answers, with so many numbers lent for the sets: 13, 19, 27 or 0.
+    pub fn open(type_defs: u32, type_refs: u32, size: u32, lent: usize) -> (Model, u32) {
+        let code = match size {
+            _ if type_defs.max(type_refs) > MOST_ROWS => 13,
+            1..=MOST_SIZE if lent < size as usize * SET => 27,
+            1..=MOST_SIZE => 0,
             _ => 19,
         };
         let rows = if code == 0 { size as usize } else { 0 };
@@ -56,13 +82,23 @@ impl Model {
         (model, code)
     }
 
+    /// A model as large as there are blobs, with memory enough, after each row was filed once: no filing finds a mark.
+    pub fn filed(type_defs: u32, type_refs: u32, blobs: &[impl AsRef<[u8]>]) -> Model {
+        let size = blobs.len();
+        let (mut model, _) = Model::open(type_defs, type_refs, size as u32, size * SET);
+        for (row, blob) in model.rows.iter_mut().zip(blobs) {
+            row.blob = Some(blob.as_ref().to_vec());
+        }
+        model
+    }
+
     pub fn file(&mut self, row: u32, blob: &[u8]) -> u32 {
         let Some(row) = self.index(row) else {
             return 16;
         };
-        let findings = self.check();
+        let reaching = reaching(&self.check(), row);
         for (other, kept) in self.rows.iter_mut().enumerate() {
-            if other == row || reached(&findings, other)[row] {
+            if other == row || reaching[other] {
                 kept.mark = false;
             }
         }
@@ -71,18 +107,13 @@ impl Model {
     }
 
     pub fn acknowledge(&mut self, row: u32) -> u32 {
-        let Some(row) = self.index(row) else {
+        let Some(index) = self.index(row) else {
             return 16;
         };
-        let standing = standing(&self.check(), row);
-        if standing == EMPTY || standing == CLEAN {
-            return 17;
-        }
-        if self.rows[row].mark {
-            return 18;
-        }
-        self.rows[row].mark = true;
-        0
+        let mut asked = self.ask(row);
+        let answer = asked.press();
+        self.rows[index].mark = asked.mark == 1;
+        answer
     }
 
     pub fn ask(&self, row: u32) -> Asked {
@@ -93,13 +124,29 @@ impl Model {
             };
         };
         let findings = self.check();
+        self.asked(&findings, row, |from| reached(&findings, from))
+    }
+
+    /// What asking each row gives, from one fresh check.
+    pub fn ask_all(&self) -> Vec<Asked> {
+        let findings = self.check();
+        let rows = 0..findings.len();
+        let reach: Vec<_> = rows.clone().map(|row| reached(&findings, row)).collect();
+        rows.map(|row| self.asked(&findings, row, |from| &reach[from]))
+            .collect()
+    }
+
+    fn asked<R>(&self, findings: &[Finding], row: usize, reach: impl Fn(usize) -> R) -> Asked
+    where
+        R: AsRef<[bool]>,
+    {
         let (finding, place) = match findings[row] {
             Finding::Bad { code, place } => (code, place),
             _ => (0, 0),
         };
         Asked {
             code: 0,
-            standing: standing(&findings, row),
+            standing: standing(findings, row, reach),
             finding,
             place,
             mark: self.rows[row].mark.into(),
@@ -142,36 +189,55 @@ fn named(table: &[u32]) -> Vec<usize> {
         .collect()
 }
 
-/// For each row, whether a chain of one or more references leads to it.
+/// For each row, whether a chain of one or more references leads to it from this one.
 fn reached(findings: &[Finding], from: usize) -> Vec<bool> {
-    let mut seen = vec![false; findings.len()];
-    let mut open = vec![from];
+    walk(findings.len(), from, |row| findings[row].names())
+}
+
+/// For each row, whether a chain of one or more references leads from it to this one.
+fn reaching(findings: &[Finding], to: usize) -> Vec<bool> {
+    let mut namers = vec![Vec::new(); findings.len()];
+    for (row, finding) in findings.iter().enumerate() {
+        for &name in finding.names() {
+            namers[name].push(row);
+        }
+    }
+    walk(findings.len(), to, |row| &namers[row])
+}
+
+/// For each of so many rows, whether one or more steps lead to it from the first.
+fn walk<'s>(rows: usize, first: usize, steps: impl Fn(usize) -> &'s [usize]) -> Vec<bool> {
+    let mut seen = vec![false; rows];
+    let mut open = vec![first];
     while let Some(row) = open.pop() {
-        if let Finding::Names(names) = &findings[row] {
-            for &name in names {
-                if !seen[name] {
-                    seen[name] = true;
-                    open.push(name);
-                }
+        for &next in steps(row) {
+            if !seen[next] {
+                seen[next] = true;
+                open.push(next);
             }
         }
     }
     seen
 }
 
-fn standing(findings: &[Finding], row: usize) -> u32 {
+/// How a row stands, where `reach` tells for each row what it reaches.
+fn standing<R>(findings: &[Finding], row: usize, reach: impl Fn(usize) -> R) -> u32
+where
+    R: AsRef<[bool]>,
+{
     match findings[row] {
         Finding::Empty => return EMPTY,
         Finding::Bad { .. } => return BAD,
         Finding::Names(_) => {}
     }
-    let reach = reached(findings, row);
-    if reach[row] {
+    let reached = reach(row);
+    let reached = reached.as_ref();
+    if reached[row] {
         return LOOP;
     }
     let shaky = (0..findings.len()).any(|other| {
-        reach[other]
-            && (!matches!(findings[other], Finding::Names(_)) || reached(findings, other)[other])
+        reached[other]
+            && (!matches!(findings[other], Finding::Names(_)) || reach(other).as_ref()[other])
     });
     if shaky {
         LEANS
