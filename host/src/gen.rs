@@ -12,7 +12,7 @@ pub use edges::edges;
 pub use maker::{chain, grammar_made, locals, put_number};
 pub use relayout::relayout;
 pub use rng::Rng;
-pub use sheets::sheet;
+pub use sheets::{line, longest_sheet, naming, sheet, sheet_of};
 
 use crate::reference::{Counts, MOST_ROWS};
 

@@ -1,6 +1,8 @@
 // The sheet example, the register's worked row, what openings answer, and the sheet's refusals.
 
-use host::sheet::{run_sheet, Asked, Model, BAD, CLEAN, EMPTY, LEANS, LOOP};
+use host::gen::{line, longest_sheet, naming, sheet_of, Rng};
+use host::sheet::{run_sheet, Asked, Model, BAD, CLEAN, EMPTY, LEANS, LOOP, MOST_SHEET};
+use std::fmt::Write;
 
 const SHEET: [u8; 17] = [
     0x02, 0x00, 0x00, 0x03, 0x04, 0x0F, 0x20, 0x0A, 0x08, 0x01, 0x10, 0x03, 0x20, 0x0E, 0x08, 0x01,
@@ -165,6 +167,7 @@ fn refusals() {
     refused(&[0x02, 0x00, 0x00, 0x80, 0x41], 3);
     refused(&[0x02, 0x00, 0x00, 0x82, 0x00], 5);
     refused(&[0x02, 0x00, 0x00, 0x82, 0x01], 3);
+    refused(&sheet_of(0, 0, &vec![vec![0x08]; 513], &[]), 3);
     refused(&[0x02, 0x00, 0x00, 0x01, 0x02, 0x08], 4);
     refused(&[0x02, 0x00, 0x00, 0x01, 0x01, 0x08], 6);
     refused(&[0x02, 0x00, 0x00, 0x01, 0x01, 0x08, 0x01], 7);
@@ -178,6 +181,52 @@ fn a_long_blob_is_bad_and_no_sheet_fault() {
     sheet.extend([0x02, 0x01, 0xDF, 0xFF, 0xFF, 0xFF]);
     let printed = "row standing code place mark\n1 BAD 1 0 1\nack 1 0\nack 536870911 16\n";
     assert_eq!(text(&sheet), printed);
+}
+
+/// The sheet's answers come from one check: they are those of the calls made one by one.
+#[test]
+fn one_check_serves_all_presses() {
+    let mut rng = Rng::new(8);
+    for size in [1, 2, 5, 64, 65, 130] {
+        let any = |rng: &mut Rng| rng.below(size) as u32 + 1;
+        let blobs: Vec<Vec<u8>> = (0..size)
+            .map(|_| match rng.below(12) {
+                0 => vec![0x10],
+                1..=6 => naming(&[any(&mut rng)]),
+                _ => naming(&[]),
+            })
+            .collect();
+        let presses: Vec<u32> = (0..3 * size).map(|_| rng.below(size + 2) as u32).collect();
+        let (mut model, _) = Model::open(0, 0, size as u32, size * 16);
+        for (row, blob) in (1..).zip(&blobs) {
+            assert_eq!(model.file(row, blob), 0);
+        }
+        let answers: Vec<u32> = presses.iter().map(|&row| model.acknowledge(row)).collect();
+        let mut printed = String::from("row standing code place mark\n");
+        for row in 1..=size as u32 {
+            let [_, standing, finding, place, mark] = asked(&model, row);
+            let standing = ["EMPTY", "BAD", "LOOP", "LEANS", "CLEAN"][standing as usize];
+            writeln!(printed, "{row} {standing} {finding} {place} {mark}").unwrap();
+        }
+        for (row, answer) in presses.iter().zip(answers) {
+            writeln!(printed, "ack {row} {answer}").unwrap();
+        }
+        assert_eq!(text(&sheet_of(0, 0, &blobs, &presses)), printed);
+    }
+}
+
+#[test]
+fn the_longest_sheet_of_512_rows() {
+    let sheet = longest_sheet(&line(512, &naming(&[1])));
+    assert_eq!(sheet.len(), MOST_SHEET);
+    let printed = text(&sheet);
+    assert!(printed.contains("\n127 LOOP 0 0 1\n128 LOOP 0 0 0\n"));
+    assert!(printed.contains("\n512 LOOP 0 0 0\nack 1 0\n"));
+    assert_eq!(
+        printed.lines().filter(|line| line.ends_with(" 18")).count(),
+        printed.lines().count() - 1 - 512 - 127
+    );
+    refused(&[&sheet[..], &[0x01]].concat(), MOST_SHEET);
 }
 
 /// Each example of the repository prints what stands beside it.

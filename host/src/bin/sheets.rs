@@ -1,8 +1,8 @@
 // Holds the panel program against the model: each sheet goes to the program, by a file or by its standard input, and its print has to be
 // the model's, byte for byte.
 
-use host::gen::{sheet, Rng};
-use host::sheet::{run_sheet, MOST_SHEET};
+use host::gen::{line, longest_sheet, naming, sheet, sheet_of, Rng};
+use host::sheet::{run_sheet, MOST_SHEET, MOST_SIZE};
 use std::io::{self, Write};
 use std::path::{Path, PathBuf};
 use std::process::{Command, ExitCode, Stdio};
@@ -79,7 +79,7 @@ impl Run {
             self.case(&sheet[..end])?;
         }
         for at in 0..sheet.len() {
-            for value in [0x00, 0x01, 0x02, 0x41, 0x7F, 0x80, 0xC0, 0xE0, 0xFF] {
+            for value in [0x00, 0x01, 0x02, 0x41, 0x7F, 0x80, 0x82, 0xC0, 0xE0, 0xFF] {
                 let mut changed = sheet.to_vec();
                 changed[at] = value;
                 self.case(&changed)?;
@@ -90,7 +90,7 @@ impl Run {
 
     fn case(&mut self, sheet: &[u8]) -> io::Result<()> {
         let expected = run_sheet(sheet);
-        let by_file = self.sheets % 2 == 0;
+        let by_file = self.sheets.is_multiple_of(2);
         let printed = if by_file {
             self.by_file(sheet)?
         } else {
@@ -130,13 +130,55 @@ fn by_input(panel: &Path, sheet: &[u8]) -> io::Result<Vec<u8>> {
     Ok(output.stdout)
 }
 
-/// The longest sheets, one of them all presses, and one that is longer by far than any may be.
+/// The longest sheets, one of them all presses, one that is longer by far than any may be, and those with the most rows.
 fn edges() -> Vec<Vec<u8>> {
     let mut presses = vec![0x02, 0x00, 0x00, 0x01, 0x01, 0x10, 0xC0, 0x00, 0xFF, 0xF6];
     presses.resize(MOST_SHEET, 0x7F);
     let one_more = [&presses[..], &[0x7F]].concat();
-    let mut rows = vec![0x02, 0x00, 0x00, 0x40];
-    rows.extend([0x03, 0x20, 0x06, 0x08].repeat(64));
-    rows.push(0x00);
-    vec![presses, one_more, rows, vec![0x02; 1_000_000]]
+    let rows = sheet_of(0, 0, &vec![naming(&[1]); 64], &[]);
+    let mut sheets = vec![presses, one_more, rows, vec![0x02; 1_000_000]];
+    sheets.extend(most_rows());
+    sheets.extend(counts_of_blobs());
+    sheets
+}
+
+/// As many rows as there may be: in one cycle, in a line that ends well or badly, and in as many bytes as there may be or more.
+fn most_rows() -> Vec<Vec<u8>> {
+    let cycle = line(MOST_SIZE, &naming(&[1]));
+    let twice: Vec<u32> = (0..=MOST_SIZE + 1).flat_map(|row| [row, row]).collect();
+    let mut sheets = vec![longest_sheet(&cycle), sheet_of(0, 0, &cycle, &twice)];
+    for last in [&[0x08][..], &[0x10], &naming(&[MOST_SIZE + 1])] {
+        sheets.push(sheet_of(0, 0, &line(MOST_SIZE, last), &twice));
+    }
+    // 5 bytes of head, 512 blobs of 126 bytes behind their lengths, and no presses: 506 bytes are left.
+    for longer in [506, 507, 512] {
+        let mut blobs = vec![vec![0x1D; 127]; longer];
+        blobs.resize(512, vec![0x1D; 126]);
+        sheets.push(sheet_of(0, 0, &blobs, &[]));
+    }
+    sheets
+}
+
+/// Numbers of blobs at the limits, with none of them there, one, or all.
+fn counts_of_blobs() -> Vec<Vec<u8>> {
+    let mut sheets = Vec::new();
+    for count in [
+        &[0x40][..],
+        &[0x41],
+        &[0x7F],
+        &[0x80, 0x41],
+        &[0x80, 0x7F],
+        &[0x80, 0x80],
+        &[0x82, 0x00],
+        &[0x82, 0x01],
+        &[0xC0, 0x00, 0x02, 0x00],
+    ] {
+        let head = [&[0x02, 0x00, 0x00], count].concat();
+        sheets.push([&head[..], &[0x01, 0x08, 0x00]].concat());
+        sheets.push(head);
+    }
+    for rows in [65, 127, 128, 511, 512, 513] {
+        sheets.push(sheet_of(0, 0, &vec![vec![0x08]; rows], &[]));
+    }
+    sheets
 }
