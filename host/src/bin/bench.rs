@@ -293,73 +293,113 @@ mod writing {
 /// Jobs that the programs do: their time is a run's less a run's that does no job.
 mod jobs {
     use super::*;
-    use host::gen::put_number;
+    use host::gen::{line, longest_sheet, naming};
     use host::reference::decode;
-    use host::sheet::{run_sheet, Model, MOST_SHEET};
+    use host::sheet::{run_sheet, Model, MOST_SIZE};
     use std::io;
     use std::process::{Command, Stdio};
 
     const RUNS: usize = 20;
     const NUMBERS: usize = 10_000;
-    const NUMBER_ROUNDS: usize = 10_000;
-    const ROUNDS: usize = 1_000;
-    const ROWS: u32 = 64;
+    const NUMBER_ROUNDS: u32 = 10_000;
+    const SMALL: u32 = 64;
+    const SMALL_ROUNDS: u32 = 1_000;
+
+    /// How the rows of a register name each other: the program's word for it, and the table's.
+    struct Shape {
+        word: &'static str,
+        name: &'static str,
+        blobs: Vec<Vec<u8>>,
+    }
 
     pub fn report(programs: &Path) -> io::Result<String> {
         let timed = programs.join("timed");
-        let panel = programs.join("panel");
-        let worst = std::env::temp_dir().join(format!("worst-{}.sheet", std::process::id()));
-        let sheet = worst_sheet();
-        std::fs::write(&worst, &sheet)?;
-        let bytes = [5; NUMBERS];
-        let model = cycle();
         let mut text = String::from("| job | ours | reference | ratio |\n|---|--:|--:|--:|\n");
-        let mut row = |name: &str, unit: &str, [ours, reference]: [f64; 2]| {
-            writeln!(
-                text,
-                "| {name} | {ours:.2} {unit} | {reference:.2} {unit} | {:.2} |",
-                ours / reference
-            )
-            .expect("a string takes all");
-        };
-        let numbers = best(&timed, &["numbers"], || {
+        text += &numbers(&timed)?;
+        text += &small_asks(&timed)?;
+        for shape in shapes() {
+            text += &asks(&timed, &shape)?;
+        }
+        for shape in shapes() {
+            text += &files(&timed, &shape)?;
+        }
+        text += &worst(&programs.join("panel"))?;
+        writeln!(
+            text,
+            "\nThe best of {RUNS} runs in turn. Ours are whole processes, less the time of one that does no job. Of 512 rows each is asked once, or filed once \
+             more with its own blob; building the register, a filing for each row, is in our time too, and not in the reference's. The worst sheet has 512 \
+             rows in a cycle, the rest are presses; our time has its file read and its text written to nowhere in it. The reference's are calls in this \
+             process: it keeps blobs and marks alone, and judges all blobs afresh in each call, or once for a sheet."
+        )
+        .expect("a string takes all");
+        Ok(text)
+    }
+
+    /// A line of the table.
+    fn line_of(name: &str, unit: &str, [ours, reference]: [f64; 2]) -> String {
+        let ratio = ours / reference;
+        format!("| {name} | {ours:.2} {unit} | {reference:.2} {unit} | {ratio:.2} |\n")
+    }
+
+    fn microseconds(times: [f64; 2], calls: u32) -> [f64; 2] {
+        times.map(|ns| ns / 1e3 / f64::from(calls))
+    }
+
+    fn numbers(timed: &Path) -> io::Result<String> {
+        let bytes = [5; NUMBERS];
+        let times = best(timed, &["numbers"], || {
             for _ in 0..NUMBER_ROUNDS {
                 black_box(sum(black_box(&bytes)));
             }
         })?;
-        row(
-            "10,000 numbers of one byte, summed",
-            "µs",
-            numbers.map(|ns| ns / 1e3 / NUMBER_ROUNDS as f64),
-        );
-        let asks = best(&timed, &["asks"], || {
-            for i in 0..ROUNDS as u32 * ROWS {
-                black_box(black_box(&model).ask(i % ROWS + 1));
+        let name = "10,000 numbers of one byte, summed";
+        Ok(line_of(name, "µs", microseconds(times, NUMBER_ROUNDS)))
+    }
+
+    fn small_asks(timed: &Path) -> io::Result<String> {
+        let model = Model::filed(0, 0, &cycle(SMALL));
+        let calls = SMALL_ROUNDS * SMALL;
+        let times = best(timed, &["asks", "small"], || {
+            for call in 0..calls {
+                black_box(black_box(&model).ask(call % SMALL + 1));
             }
         })?;
-        let calls = ROUNDS as f64 * f64::from(ROWS);
-        row(
-            "a row asked, 64 rows in a cycle",
-            "µs",
-            asks.map(|ns| ns / 1e3 / calls),
-        );
-        let path = worst.to_string_lossy();
-        let worst_run = best(&panel, &[&path], || {
+        let name = "a row asked, 64 rows in a cycle";
+        Ok(line_of(name, "µs", microseconds(times, calls)))
+    }
+
+    fn asks(timed: &Path, shape: &Shape) -> io::Result<String> {
+        let model = Model::filed(0, 0, &shape.blobs);
+        let times = best(timed, &["asks", shape.word], || {
+            for row in 1..=MOST_SIZE {
+                black_box(black_box(&model).ask(row));
+            }
+        })?;
+        let name = format!("a row asked, 512 rows {}", shape.name);
+        Ok(line_of(&name, "µs", microseconds(times, MOST_SIZE)))
+    }
+
+    fn files(timed: &Path, shape: &Shape) -> io::Result<String> {
+        let mut model = Model::filed(0, 0, &shape.blobs);
+        let times = best(timed, &["files", shape.word], || {
+            for (row, blob) in (1..).zip(&shape.blobs) {
+                black_box(black_box(&mut model).file(row, blob));
+            }
+        })?;
+        let name = format!("a row filed, 512 rows {}", shape.name);
+        Ok(line_of(&name, "µs", microseconds(times, MOST_SIZE)))
+    }
+
+    fn worst(panel: &Path) -> io::Result<String> {
+        let file = std::env::temp_dir().join(format!("worst-{}.sheet", std::process::id()));
+        let sheet = longest_sheet(&cycle(MOST_SIZE));
+        std::fs::write(&file, &sheet)?;
+        let times = best(panel, &[&file.to_string_lossy()], || {
             black_box(run_sheet(black_box(&sheet)));
         })?;
-        row(
-            "the worst sheet, 65,536 bytes",
-            "ms",
-            worst_run.map(|ns| ns / 1e6),
-        );
-        std::fs::remove_file(&worst)?;
-        writeln!(
-            text,
-            "\nThe best of {RUNS} runs in turn. Ours are whole processes, less the time of one that does no job; the worst sheet's time has its file read and its \
-             text written to nowhere in it. The reference's are calls in this process."
-        )
-        .expect("a string takes all");
-        Ok(text)
+        std::fs::remove_file(&file)?;
+        let name = "the worst sheet, 65,536 bytes";
+        Ok(line_of(name, "ms", times.map(|ns| ns / 1e6)))
     }
 
     /// Nanoseconds of a program's job and of the reference's.
@@ -396,34 +436,40 @@ mod jobs {
         sum
     }
 
-    /// The type of a row that names a row by a modifier.
-    fn naming(row: u32) -> Vec<u8> {
-        let mut blob = vec![0x20];
-        put_number(&mut blob, row * 4 + 2);
-        blob.push(0x08);
-        blob
+    fn shapes() -> [Shape; 3] {
+        [
+            Shape {
+                word: "line",
+                name: "in a line",
+                blobs: line(MOST_SIZE, &[0x08]),
+            },
+            Shape {
+                word: "cycle",
+                name: "in a cycle",
+                blobs: cycle(MOST_SIZE),
+            },
+            Shape {
+                word: "random",
+                name: "that each name 4 at random",
+                blobs: random(),
+            },
+        ]
     }
 
     /// Each row names the next, and the last the first.
-    fn cycle() -> Model {
-        let (mut model, _) = Model::open(0, 0, ROWS, ROWS as usize * 16);
-        for row in 1..=ROWS {
-            model.file(row, &naming(row % ROWS + 1));
-        }
-        model
+    fn cycle(size: u32) -> Vec<Vec<u8>> {
+        line(size, &naming(&[1]))
     }
 
-    /// 64 rows, the rest presses.
-    fn worst_sheet() -> Vec<u8> {
-        let mut sheet = vec![0x02, 0x00, 0x00, ROWS as u8];
-        for row in 1..=ROWS {
-            let blob = naming(row % ROWS + 1);
-            sheet.push(blob.len() as u8);
-            sheet.extend(blob);
-        }
-        let presses = MOST_SHEET - sheet.len() - 4;
-        put_number(&mut sheet, presses as u32);
-        sheet.extend((0..presses).map(|i| (i % 127) as u8 + 1));
-        sheet
+    /// Each of 512 rows names four, found by a generator that the programs have too.
+    fn random() -> Vec<Vec<u8>> {
+        let mut x: u32 = 1;
+        let mut any = || {
+            x = x.wrapping_mul(1_664_525).wrapping_add(1_013_904_223);
+            (x >> 16) % MOST_SIZE + 1
+        };
+        (0..MOST_SIZE)
+            .map(|_| naming(&[any(), any(), any(), any()]))
+            .collect()
     }
 }
