@@ -3,10 +3,9 @@
 use Prim.Native.Nat.{ℕ, zero, suc}
 use mathlib.Core.List.{List}
 use mathlib.Core.Bool.{Bool, false, cond, _||_, _&&_}
-use lib.ListN.{set, getD}
+use lib.ListN.{set}
 use lib.Dec.{ltb, eqb}
 use Rattle.reach.specs.Reach.{Graph, thru}
-use Rattle.bits.specs.Bits.{at}
 
 -- a test holds of some index below n
 unfoldable pub any : ℕ → (ℕ → Bool) → Bool
@@ -32,23 +31,6 @@ standing n state names i =
 unfoldable pub cleared : List ℕ → ℕ → (ℕ → Bool) → List ℕ
 cleared l zero p = l
 cleared l (suc n) p = cond (p n) (set (cleared l n p) n 0) (cleared l n p)
-
--- row j is "an EMPTY, BAD or LOOP row" that row i reaches, where m is a closed table of w words to a row
-abbrev pub leansIn : ℕ → List ℕ → List ℕ → ℕ → ℕ → Bool
-leansIn w m states i j = at w m i j && (ltb (getD states j 0) 2 || at w m j j)
-
--- "Filing r unmarks r and every row that reaches r": row j, when row i is filed
-abbrev pub losesIn : ℕ → List ℕ → ℕ → ℕ → Bool
-losesIn w m i j = eqb j i || at w m j i
-
--- row j has a mark
-abbrev pub markedIn : List ℕ → ℕ → Bool
-markedIn marks j = ltb 0 (getD marks j 0)
-
--- the standing of row i among n, where m is a closed table
-unfoldable pub standingIn : ℕ → List ℕ → List ℕ → ℕ → ℕ → ℕ
-standingIn w m states n i =
-    cond (ltb (getD states i 0) 2) (getD states i 0) (cond (at w m i i) 2 (cond (any n (leansIn w m states i)) 3 4))
 
 -- l with f i at each index i below n
 unfoldable pub filled : List ℕ → ℕ → (ℕ → ℕ) → List ℕ

@@ -327,9 +327,10 @@ mod jobs {
         writeln!(
             text,
             "\nThe best of {RUNS} runs in turn. Ours are whole processes, less the time of one that does no job. Of 512 rows each is asked once, or filed once \
-             more with its own blob; building the register, a filing for each row, is in our time too, and not in the reference's. The worst sheet has 512 \
-             rows in a cycle, the rest are presses; our time has its file read and its text written to nowhere in it. The reference's are calls in this \
-             process: it keeps blobs and marks alone, and judges all blobs afresh in each call, or once for a sheet."
+             more with its own blob while row 1 has a mark, so that the rows that reach the filed one are looked for; building the register, a filing for each \
+             row with no mark anywhere, is in our time too, and less than a hundredth of it. The worst sheet has 512 rows in a cycle, the rest are presses; our \
+             time has its file read and its text written to nowhere in it. The reference's are calls in this process: it keeps blobs and marks alone, and \
+             judges all blobs afresh in each call, or once for a sheet."
         )
         .expect("a string takes all");
         Ok(text)

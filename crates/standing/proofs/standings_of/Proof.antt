@@ -6,7 +6,8 @@ use Prim.Native.Nat.{ℕ, _≤_, _-_}
 use mathlib.Core.List.{List}
 use lib.ListN.{set, length}
 use denote.Ref.{now}
-use Rattle.standing.specs.Standing.{filled, standingIn}
+use Rattle.standing.specs.Standing.{filled}
+use Rattle.standing.specs.Closed.{standingIn}
 use Rattle.standing.proofs.Standings.{filled-none, filled-more, length-filled}
 use Rattle.standing.proofs.standings_of.Statement.{statement}
 use Rattle.standing.proofs.standings_of.Tie as tie

@@ -7,7 +7,8 @@ use mathlib.Core.Logic.{⊎-elim}
 use mathlib.Core.List.{List}
 use lib.ListN.{set, length}
 use denote.Ref.{now}
-use Rattle.standing.specs.Standing.{cleared, losesIn}
+use Rattle.standing.specs.Standing.{cleared}
+use Rattle.standing.specs.Closed.{losesIn}
 use Rattle.standing.proofs.Standings.{cleared-none, cleared-set, cleared-kept, length-cleared}
 use Rattle.bits.proofs.BitLaws.{row-in}
 use Rattle.standing.proofs.unmark.Statement.{statement}
