@@ -1,7 +1,7 @@
 // The register of an accepted sheet: opened with the sheet's counts, all blobs filed.
 ghost use mathlib.Core.Path.{_≡_};
 ghost use Rattle.number.specs.Checked.{checkedAt};
-ghost use Rattle.layout.specs.Layout.{defsOf, refsOf, blobsFrom};
+ghost use Rattle.layout.specs.Layout.{blobsFrom};
 ghost use Rattle.layout.specs.Layout.{valueOf as Layout·valueOf, nextOf as Layout·nextOf};
 ghost use Rattle.register.specs.Calls.{holding};
 ghost use Rattle.deposit.specs.Deposit.{filedAll, registerOf};

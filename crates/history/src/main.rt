@@ -100,6 +100,8 @@ fn too_few(g: Register) {
     let mut fewer = [0u32; 47];
     let none = print::open(0, 0, 3, &mut fewer);
     print::ask(none, 1, &fewer);
+    let none = print::file(none, 1, b"\x08", &mut fewer);
+    print::acknowledge(none, 1, &fewer);
     print::open(0, 0, 513, &mut fewer);
     let g = print::file(g, 6, b"\x08", &mut few);
     let g = print::acknowledge(g, 6, &few);

@@ -2,7 +2,6 @@
 ghost use mathlib.Core.Path.{_≡_};
 ghost use Prim.Native.Nat.{_≤_};
 ghost use lib.ListN.{length};
-ghost use Rattle.answer.specs.Size.{maxSize};
 ghost use Rattle.layout.specs.Layout.{acksFrom};
 ghost use Rattle.presses.specs.Presses.{pressCode, pressMarks, pressLines, pressesMarks};
 ghost use Rattle.text.specs.Printing.{Prints};

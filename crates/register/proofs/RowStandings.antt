@@ -1,7 +1,7 @@
 -- The ways out of `standings`, and of `marks_after` where there is no mark.
 -- Assumes nothing.
 use Prim.Native.Nat.{ℕ, _*_, _<_, _≤_}
-use mathlib.Core.Path.{_≡_, sym, _∙_}
+use mathlib.Core.Path.{_≡_, sym}
 use mathlib.Core.List.{List}
 use mathlib.Core.Bool.{true, false, _||_}
 use lib.ListN.{length, getD, replicate, length-replicate}

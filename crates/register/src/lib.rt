@@ -1,7 +1,7 @@
 // The register of the TypeSpec rows of one module, a struct by value, with the sets of rows that its rows name in numbers that the caller lends: the
 // same at each call from the opening on, WORDS to a row. Row r has the index r - 1.
 ghost use mathlib.Core.Path.{_≡_};
-ghost use Prim.Native.Nat.{ℕ, _*_, _≤_, _<_};
+ghost use Prim.Native.Nat.{_*_, _≤_, _<_};
 ghost use lib.ListN.{length};
 ghost use Rattle.filing.specs.Outcome.{judged};
 ghost use Rattle.answer.specs.Size.{maxSize, words};

@@ -10,14 +10,11 @@ use lib.ListN.{length, getD, set}
 use lib.Dec.{eqb}
 use borrow.Author.Tests.{le-ltb, ne-eqb, eqb-true}
 use Rattle.answer.specs.Size.{maxSize, words}
-use Rattle.answer.specs.Answers.{rowGate, gate, ackCode}
-use Rattle.register.specs.Calls.{Held, held, holding, left, blank, changed, openCode, openOf, judged, filed, filedAt, fileOf, standingOf, standingsOf, marked, ackAt, ackOf, askAt, askOf}
+use Rattle.answer.specs.Answers.{rowGate, ackCode}
+use Rattle.register.specs.Calls.{Held, held, holding, changed, openOf, fileOf, standingOf, standingsOf, marked, ackAt, ackOf, askAt, askOf}
 use Rattle.register.specs.declared.Register.{Register}
 use Rattle.answer.proofs.Gates.{row-ok, gate-within}
-use Rattle.bits.specs.Bits.{zeroed}
-use Rattle.bits.proofs.BitLaws.{length-zeroed}
-use Rattle.register.proofs.Openings.{open-ok}
-use Rattle.register.proofs.Lent.{file-length}
+use Rattle.register.proofs.Lent.{Fits, open-fits, file-rows, file-fits}
 use Rattle.register.proofs.RowStandings.{standings-at}
 use Rattle.layout.specs.Layout.{blobsFrom, defsOf, refsOf}
 use Rattle.text.specs.Lines.{header}
@@ -28,34 +25,6 @@ use Rattle.sheet.specs.Rows.{askedBy, rowsBy, printedBy}
 use Rattle.layout.specs.declared.Layout.{Layout}
 
 -- ---- the number of rows, and of the numbers lent
-pub record Fits (h : Held) : Type 0 where
-  pub size : h .register .rows ≤ maxSize
-  pub enough : h .register .rows * words ≤ length (h .sets)
-
-open-fits : (defs refs rows : ℕ) (l : List ℕ) → Fits (held (openOf defs refs rows l))
-unfolding openOf
-open-fits defs refs rows l = picked (eqb (openCode defs refs rows (length l)) 0) refl
-  where
-    picked : (t : Bool) → eqb (openCode defs refs rows (length l)) 0 ≡ t
-        → Fits (held (cond t (left (changed 0 (blank defs refs rows)) (zeroed l 0 (rows * words))) (left (changed (openCode defs refs rows (length l)) (blank 0 0 0)) l)))
-    picked true e =
-        let k = open-ok defs refs rows (length l) (eqb-true _ _ e) in
-        record { size = k .0; enough = omega (arith, k .1, length-zeroed l 0 (rows * words)) }
-    picked false e = record { size = omega arith; enough = omega arith }
-
-file-rows : (g : Register) (row : ℕ) (blob l : List ℕ) → fileOf g row blob l .changed .register .rows ≡ g .rows
-unfolding fileOf filed
-file-rows g row blob l = picked (eqb (gate (length l) (g .rows) row) 0)
-  where
-    picked : (b : Bool) → cond b (filedAt g (row - 1) (judged (g .defs) (g .refs) (g .rows) blob) l) (left (changed (gate (length l) (g .rows) row) g) l) .changed .register .rows ≡ g .rows
-    picked true = refl
-    picked false = refl
-
-file-fits : (h : Held) (row : ℕ) (blob : List ℕ) → Fits h → Fits (held (fileOf (h .register) row blob (h .sets)))
-file-fits h row blob f =
-    let r = file-rows (h .register) row blob (h .sets) in
-    record { size = omega (arith, r, f .size); enough = omega (arith, r, f .enough, file-length (h .register) row blob (h .sets)) }
-
 pub filed-rows : (blobs : List (List ℕ)) (h : Held) (row : ℕ) → filedAll h row blobs .register .rows ≡ h .register .rows
 unfolding filedAll
 filed-rows [] h row = refl

@@ -17,7 +17,8 @@ use Rattle.presses.specs.Presses.{pressLines, pressesMarks}
 use Rattle.sheet.specs.Rows.{rowsBy, printedBy}
 use Rattle.layout.specs.declared.Layout.{Layout}
 use Rattle.layout.specs.declared.Parsed.{Parsed}
-use Rattle.sheet.proofs.Agreement.{Fits, register-fits, printed-agree}
+use Rattle.register.proofs.Lent.{Fits}
+use Rattle.sheet.proofs.Agreement.{register-fits, printed-agree}
 use Rattle.sheet.proofs.Fits.{runs-short, runs-fits}
 use Rattle.sheet.proofs.Lengths.{printed-length}
 

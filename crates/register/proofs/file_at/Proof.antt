@@ -1,6 +1,5 @@
 -- `register::file_at` meets its contract. Assumes nothing.
 use borrow.Author.Needs.{needs}
-use mathlib.Core.Path.{refl}
 use Rattle.register.specs.Calls.{filed}
 use Rattle.register.proofs.file_at.Statement.{statement}
 use Rattle.register.proofs.file_at.Tie as tie
