@@ -1,11 +1,11 @@
--- What it says of a call that it is admitted.
+-- What it says of a call that it is admitted; and what goes by a number that is 0 or a refusal.
 -- Assumes nothing.
 use Prim.Native.Nat.{ℕ, _*_, _≤_}
 use mathlib.Core.Path.{_≡_, refl}
 use mathlib.Core.Bool.{Bool, true, false, cond, _||_}
 use native.Mathlib.Omega.{arith}
 use lib.Dec.{ltb, eqb}
-use borrow.Author.Tests.{le-ltb, ltb-false, eqb-false}
+use borrow.Author.Tests.{le-ltb, ltb-false, eqb-true, eqb-false}
 use Rattle.answer.specs.Size.{maxSize, words}
 use Rattle.answer.specs.Answers.{rowGate, gate}
 
@@ -43,3 +43,11 @@ gate-ok lent rows row h = go (ltb maxSize rows) (ltb lent (rows * words)) refl r
 pub gate-within : (lent rows row : ℕ) → rows ≤ maxSize → rows * words ≤ lent → gate lent rows row ≡ rowGate rows row
 unfolding gate
 gate-within lent rows row h k = rw (le-ltb maxSize rows h, le-ltb lent (rows * words) k)
+
+-- what holds of an answer where a number is 0, and of the one where it is not, holds of the one that the number gives
+pub by-code : {A : Type 0} (P : A → Type 0) {x y : A} (n : ℕ) → (n ≡ 0 → P x) → ((n ≡ 0 → ⊥) → P y) → P (cond (eqb n 0) x y)
+by-code P {x} {y} n zero-case else-case = go (eqb n 0) refl
+  where
+    go : (t : Bool) → eqb n 0 ≡ t → P (cond t x y)
+    go true e = zero-case (eqb-true n 0 e)
+    go false e = else-case (eqb-false n 0 e)

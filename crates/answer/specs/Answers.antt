@@ -1,4 +1,4 @@
--- Document 01, "The register": what the calls answer, by the number of rows and by what is kept of a row.
+-- Document 01, "The register": what the calls answer, by the number of rows, the numbers lent and what is kept of a row.
 use Prim.Native.Nat.{ℕ, _*_}
 use mathlib.Core.Bool.{cond, _||_}
 use lib.Dec.{ltb, eqb}

@@ -1,4 +1,4 @@
-// What the register's calls answer, by plain numbers: the number of rows, and a row's standing, state, finding, place and mark.
+// What the register's calls answer, by plain numbers: the number of rows, how many words are lent, and a row's standing, state, finding, place and mark.
 ghost use mathlib.Core.Path.{_≡_};
 ghost use Rattle.answer.specs.Answers.{rowGate, gate, ackCode, askedOf};
 

@@ -16,7 +16,6 @@ use Rattle.grammar.proofs.Refusals.{judge-refuses}
 use Rattle.reader.specs.Answer.{answerOf, tableOf}
 use Rattle.reader.specs.declared.Answer.{Answer}
 use Rattle.bits.specs.Bits.{emptied}
-use Rattle.filing.specs.Size.{tableSize}
 use Rattle.filing.specs.Named.{collected, namedBy}
 use Rattle.filing.specs.Kept.{findingOf}
 use Rattle.filing.specs.declared.Finding.{Finding}
@@ -64,15 +63,15 @@ unfolding answerOf
 kept-small r (fault code place) f a z = rw a (f code place refl)
 kept-small r (done at n rs) f a z = absurd (z (ap (λ (x : Answer). x .code) a))
 
--- the table that is lent to the reader
+-- the table that is lent to the reader: a record for every node
 abbrev lent : List ℕ
-lent = replicate tableSize 0
+lent = replicate (6 * maxNodes) 0
 
 -- t is the table read
 module _ (counts : Counts) (s t : List ℕ) (r : Answer)
     (x : (r ≡ answerOf (reading 0 counts s (length lent / 6))) × (t ≡ tableOf (reading 0 counts s (length lent / 6)) lent)) where
   same : reading 0 counts s (length lent / 6) ≡ judge 0 counts s
-  same = reading-enough 0 counts s (length lent / 6) (omega (arith, length-replicate {A = ℕ} tableSize 0))
+  same = reading-enough 0 counts s (length lent / 6) (omega (arith, length-replicate {A = ℕ} (6 * maxNodes) 0))
 
   refuses : (c p : ℕ) → judge 0 counts s ≡ fault c p → 1 ≤ c
   refuses c p e = judge-refuses 0 counts s c p e .0 .0

@@ -1,4 +1,3 @@
-pub mod Size
 pub mod Outcome
 pub mod Named
 pub mod Kept

@@ -144,10 +144,24 @@ fn written(sets: &mut Sets) {
     let g = print::file(g, 3, b"\x20\x06\x08", sets);
     print::word(sets, 32);
     let g = print::file(g, 1, b"\x20\x0E\x08", sets);
+    print::word(sets, 16);
     print::ask(g, 1, sets);
     print::ask(g, 2, sets);
     let g = print::file(g, 2, b"\x10", sets);
     print::word(sets, 16);
+    print::ask(g, 2, sets);
+}
+
+// A register and memory that no call leaves: a count above FFFFFF, a state above 2, and a bit that names a row above the size.
+fn forged_rows(sets: &mut Sets) {
+    let mut g = print::open(0, 0, 2, sets);
+    g.defs = 0x1000000;
+    g.states[1] = 7;
+    let g = print::file(g, 1, b"\x08", sets);
+    print::ask(g, 1, sets);
+    sets[16] = 4;
+    print::ask(g, 2, sets);
+    sets[16] = 5;
     print::ask(g, 2, sets);
 }
 
@@ -161,14 +175,18 @@ fn just_enough() {
     let g = print::open(0, 0, 1, &mut sixteen);
     print::ask(g, 1, &sixteen);
     print::open(0, 0, 3, &mut forty_eight);
-    print::open(0, 0, 512, &mut less);
-    print::open(0, 0, 0, &mut fifteen);
-    print::open(0x1000000, 0, 513, &mut fifteen);
+    let none = print::open(0, 0, 512, &mut less);
+    print::ask(none, 1, &less);
+    let mut nothing = [0u32; 0];
+    print::open(0, 0, 0, &mut nothing);
+    print::open(0, 0, 513, &mut nothing);
+    print::open(0x1000000, 0, 513, &mut nothing);
 }
 
 fn main() {
     let mut sets = [0xFFFFFFFFu32; SIZE * WORDS];
     written(&mut sets);
+    forged_rows(&mut sets);
     just_enough();
     bench(&mut sets);
     refused(&mut sets);

@@ -2,7 +2,7 @@
 use libc::STDOUT_FILENO;
 use register::Register;
 
-pub fn text(s: &[u8]) {
+fn text(s: &[u8]) {
     io::write_all(STDOUT_FILENO, s);
 }
 

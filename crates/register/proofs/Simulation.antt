@@ -30,7 +30,7 @@ use Rattle.register.specs.Calls.{Held, held, Left, left, blank, changed,
 use Rattle.register.specs.Model.{Model, Call, filing, acknowledging, asking, number, report, check, outcome, stateM, refersM, standingM, touched, gateM, filedM, markedM, ackM, answerM, nextM, answersM, endM, emptyM, openingM, openedM}
 use Rattle.register.specs.Demand.{reportOf, answerR, nextR, answersR, endR}
 use Rattle.register.proofs.Openings.{open-ok}
-use Rattle.answer.proofs.Gates.{gate-ok, gate-within}
+use Rattle.answer.proofs.Gates.{gate-ok, gate-within, by-code}
 use Rattle.filing.proofs.Collects.{length-named, at-named, at-named-other}
 
 -- ---- the relation
@@ -289,17 +289,22 @@ module _ (defs refs rows : ℕ) (l : List ℕ) where
   abbrev code : ℕ
   code = openCode defs refs rows (length l)
 
-  abbrev opened : Bool → Left
-  opened t = cond t (left (changed 0 (blank defs refs rows)) (zeroed l 0 (rows * words))) (left (changed code (blank 0 0 0)) l)
+  opening-same : code ≡ openingM defs refs rows (length l)
+  unfolding openCode openingM
+  opening-same = refl
 
-  open-cases : (t : Bool) → eqb code 0 ≡ t → (opened t .changed .code ≡ code) × SimH (cond t (emptyM defs refs rows) (emptyM 0 0 0)) (held (opened t))
-  open-cases true e =
-      let z = eqb-true code 0 e in
-      let k = open-ok defs refs rows (length l) z in
-      (sym z, blank-sim defs refs rows l (k .0) (k .1))
-  open-cases false e = (refl, none-sim l)
+  opened-yes : code ≡ 0 → openedM defs refs rows (length l) ≡ emptyM defs refs rows
+  unfolding openedM
+  opened-yes z = rw (sym opening-same, eq-eqb code 0 z)
+
+  opened-no : (code ≡ 0 → ⊥) → openedM defs refs rows (length l) ≡ emptyM 0 0 0
+  unfolding openedM
+  opened-no ne = rw (sym opening-same, ne-eqb code 0 ne)
 
   pub open-sim : (openOf defs refs rows l .changed .code ≡ openingM defs refs rows (length l))
       × SimH (openedM defs refs rows (length l)) (held (openOf defs refs rows l))
-  unfolding openOf openedM openCode openingM
-  open-sim = open-cases (eqb code 0) refl
+  unfolding openOf
+  open-sim =
+      by-code (λ (x : Left). (x .changed .code ≡ openingM defs refs rows (length l)) × SimH (openedM defs refs rows (length l)) (held x)) code
+      (λ z. let k = open-ok defs refs rows (length l) z in (sym z ∙ opening-same, rw (opened-yes z) (blank-sim defs refs rows l (k .0) (k .1))))
+      (λ ne. (opening-same, rw (opened-no ne) (none-sim l)))

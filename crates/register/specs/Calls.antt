@@ -1,6 +1,6 @@
 -- Document 01, "The register": what each call answers and leaves, for any value of the register struct and any numbers lent to it. These
 -- are the contracts; the model that the calls are held against is in Model.antt.
-use Prim.Native.Nat.{ℕ, _-_, _*_}
+use Prim.Native.Nat.{ℕ, _-_, _*_, _≤_, _<_}
 use mathlib.Core.List.{List}
 use mathlib.Core.Option.{some}
 use mathlib.Core.Bool.{cond, _||_}
@@ -66,6 +66,10 @@ unfoldable pub openOf : (defs refs rows : ℕ) → List ℕ → Left
 openOf defs refs rows l =
     cond (eqb (openCode defs refs rows (length l)) 0) (left (changed 0 (blank defs refs rows)) (zeroed l 0 (rows * words)))
     (left (changed (openCode defs refs rows (length l)) (blank 0 0 0)) l)
+
+-- row i is a row of the register, and the numbers lent are enough for all of them: what the functions behind the calls require
+abbrev pub Inside : Register → ℕ → List ℕ → Type 0
+Inside g i l = (g .rows ≤ maxSize) × (i < g .rows) × (g .rows * words ≤ length l)
 
 -- row i refers to row j, by the sets lent
 abbrev pub refers : List ℕ → Graph

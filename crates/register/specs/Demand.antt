@@ -7,7 +7,7 @@ use mathlib.Core.Logic.{_↔_}
 use lib.ListN.{length}
 use Rattle.reach.specs.Reach.{Reach}
 use Rattle.answer.specs.declared.Asked.{Asked}
-use Rattle.register.specs.Calls.{Held, held, openOf, fileOf, ackOf, askOf}
+use Rattle.register.specs.Calls.{Held, holding, held, openOf, fileOf, ackOf, askOf}
 use Rattle.register.specs.Model.{Model, Call, filing, acknowledging, asking, Answer, number, report, refersM, answerM, answersM, endM, openingM, openedM}
 use Rattle.register.specs.History.{Stands, Marked}
 
@@ -28,7 +28,7 @@ answerR h (asking row) = reportOf (asks h row)
 
 unfoldable pub nextR : Held → Call → Held
 nextR h (filing row blob) = held (fileOf (h .register) row blob (h .sets))
-nextR h (acknowledging row) = record { register = ackOf (h .register) row (h .sets) .register; sets = h .sets }
+nextR h (acknowledging row) = holding (ackOf (h .register) row (h .sets) .register) (h .sets)
 nextR h (asking row) = h
 
 unfoldable pub answersR : Held → List Call → List Answer

@@ -1,11 +1,8 @@
 // The register of the TypeSpec rows of one module, a struct by value, with the sets of rows that its rows name in numbers that the caller lends: the
 // same at each call from the opening on, WORDS to a row. Row r has the index r - 1.
 ghost use mathlib.Core.Path.{_≡_};
-ghost use Prim.Native.Nat.{_*_, _≤_, _<_};
-ghost use lib.ListN.{length};
 ghost use Rattle.filing.specs.Outcome.{judged};
-ghost use Rattle.answer.specs.Size.{maxSize, words};
-ghost use Rattle.register.specs.Calls.{blank, left, openCode, openOf, filed, filedSets, fileOf, marksAfter, ackAt, ackOf, askAt, askOf, standingOf, standingsOf};
+ghost use Rattle.register.specs.Calls.{Inside, blank, left, changed, openCode, openOf, filedAt, fileOf, marksAfter, ackAt, ackOf, askAt, askOf, standingOf, standingsOf};
 pub use answer::Asked;
 pub use answer::SIZE;
 pub use answer::WORDS;
@@ -96,7 +93,7 @@ pub fn open(defs: u32, refs: u32, rows: usize, sets: &mut [u32]) -> Changed
 }
 
 fn standing_at(g: Register, i: usize, sets: &[u32]) -> u8
-    requires { ⌜ (g .rows ≤ maxSize) × (i < g .rows) × (g .rows * words ≤ length (now sets)) ⌝ }
+    requires { ⌜ Inside g i (now sets) ⌝ }
     ensures { λ r. ⌜ r ≡ standingOf g i (now (sets .entry)) ⌝ }
 {
     let n = g.rows;
@@ -129,7 +126,7 @@ pub fn standings(g: Register, sets: &[u32]) -> [u8; SIZE]
 
 // The marks after row i is filed. Where there are none, none is taken, whatever the rows reach.
 fn marks_after(g: Register, i: usize, sets: &[u32]) -> [u8; SIZE]
-    requires { ⌜ (g .rows ≤ maxSize) × (i < g .rows) × (g .rows * words ≤ length (now sets)) ⌝ }
+    requires { ⌜ Inside g i (now sets) ⌝ }
     ensures { λ r. ⌜ r ≡ marksAfter g i (now (sets .entry)) ⌝ }
 {
     let n = g.rows;
@@ -143,8 +140,8 @@ fn marks_after(g: Register, i: usize, sets: &[u32]) -> [u8; SIZE]
 }
 
 fn file_at(g: Register, i: usize, blob: &[u8], sets: &mut [u32]) -> Register
-    requires { ⌜ (g .rows ≤ maxSize) × (i < g .rows) × (g .rows * words ≤ length (now sets)) ⌝ }
-    ensures { λ r. ⌜ (r ≡ filed g i (judged (g .defs) (g .refs) (g .rows) (now (blob .entry))) (now (sets .entry))) × (now (sets .exit) ≡ filedSets i (judged (g .defs) (g .refs) (g .rows) (now (blob .entry))) (now (sets .entry))) ⌝ }
+    requires { ⌜ Inside g i (now sets) ⌝ }
+    ensures { λ r. ⌜ left (changed 0 r) (now (sets .exit)) ≡ filedAt g i (judged (g .defs) (g .refs) (g .rows) (now (blob .entry))) (now (sets .entry)) ⌝ }
 {
     let marks = marks_after(g, i, sets);
     let counts = Counts {
@@ -178,7 +175,7 @@ pub fn file(g: Register, row: usize, blob: &[u8], sets: &mut [u32]) -> Changed
 }
 
 fn acknowledge_at(g: Register, i: usize, sets: &[u32]) -> Changed
-    requires { ⌜ (g .rows ≤ maxSize) × (i < g .rows) × (g .rows * words ≤ length (now sets)) ⌝ }
+    requires { ⌜ Inside g i (now sets) ⌝ }
     ensures { λ r. ⌜ r ≡ ackAt g i (now (sets .entry)) ⌝ }
 {
     let standing = standing_at(g, i, sets);
@@ -211,7 +208,7 @@ pub fn acknowledge(g: Register, row: usize, sets: &[u32]) -> Changed
 }
 
 fn ask_at(g: Register, i: usize, sets: &[u32]) -> Asked
-    requires { ⌜ (g .rows ≤ maxSize) × (i < g .rows) × (g .rows * words ≤ length (now sets)) ⌝ }
+    requires { ⌜ Inside g i (now sets) ⌝ }
     ensures { λ r. ⌜ r ≡ askAt g i (now (sets .entry)) ⌝ }
 {
     let standing = standing_at(g, i, sets);

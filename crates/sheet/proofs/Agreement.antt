@@ -14,7 +14,7 @@ use Rattle.answer.specs.Answers.{rowGate, ackCode}
 use Rattle.register.specs.Calls.{Held, held, holding, changed, openOf, fileOf, standingOf, standingsOf, marked, ackAt, ackOf, askAt, askOf}
 use Rattle.register.specs.declared.Register.{Register}
 use Rattle.answer.proofs.Gates.{row-ok, gate-within}
-use Rattle.register.proofs.Lent.{Fits, open-fits, file-rows, file-fits}
+use Rattle.register.proofs.Lent.{Provided, open-provided, file-rows, file-provided}
 use Rattle.register.proofs.RowStandings.{standings-at}
 use Rattle.layout.specs.Layout.{blobsFrom, defsOf, refsOf}
 use Rattle.text.specs.Lines.{header}
@@ -30,14 +30,14 @@ unfolding filedAll
 filed-rows [] h row = refl
 filed-rows (blob ∷ blobs) h row = filed-rows blobs (held (fileOf (h .register) row blob (h .sets))) (row + 1) ∙ file-rows (h .register) row blob (h .sets)
 
-filed-fits : (blobs : List (List ℕ)) (h : Held) (row : ℕ) → Fits h → Fits (filedAll h row blobs)
+filed-provided : (blobs : List (List ℕ)) (h : Held) (row : ℕ) → Provided h → Provided (filedAll h row blobs)
 unfolding filedAll
-filed-fits [] h row f = f
-filed-fits (blob ∷ blobs) h row f = filed-fits blobs (held (fileOf (h .register) row blob (h .sets))) (row + 1) (file-fits h row blob f)
+filed-provided [] h row f = f
+filed-provided (blob ∷ blobs) h row f = filed-provided blobs (held (fileOf (h .register) row blob (h .sets))) (row + 1) (file-provided h row blob f)
 
-pub register-fits : (s : List ℕ) (l : Layout) (sets : List ℕ) → Fits (registerOf s l sets)
+pub register-provided : (s : List ℕ) (l : Layout) (sets : List ℕ) → Provided (registerOf s l sets)
 unfolding registerOf
-register-fits s l sets = filed-fits (blobsFrom (l .rows) s (l .blobs)) (held (openOf (defsOf s l) (refsOf s l) (l .rows) sets)) 1 (open-fits (defsOf s l) (refsOf s l) (l .rows) sets)
+register-provided s l sets = filed-provided (blobsFrom (l .rows) s (l .blobs)) (held (openOf (defsOf s l) (refsOf s l) (l .rows) sets)) 1 (open-provided (defsOf s l) (refsOf s l) (l .rows) sets)
 
 -- ---- presses on a register that has other marks
 abbrev withMarks : Register → List ℕ → Register

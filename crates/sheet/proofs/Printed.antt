@@ -17,24 +17,24 @@ use Rattle.presses.specs.Presses.{pressLines, pressesMarks}
 use Rattle.sheet.specs.Rows.{rowsBy, printedBy}
 use Rattle.layout.specs.declared.Layout.{Layout}
 use Rattle.layout.specs.declared.Parsed.{Parsed}
-use Rattle.register.proofs.Lent.{Fits}
-use Rattle.sheet.proofs.Agreement.{register-fits, printed-agree}
+use Rattle.register.proofs.Lent.{Provided}
+use Rattle.sheet.proofs.Agreement.{register-provided, printed-agree}
 use Rattle.sheet.proofs.Fits.{runs-short, runs-fits}
 use Rattle.sheet.proofs.Lengths.{printed-length}
 
 module _ (s : List ℕ) (l : Layout) {g : Register} {sets : List ℕ} (eg : holding g sets ≡ registerOf s l ownSets) where
-  fits : Fits (holding g sets)
-  fits = subst (λ (y : Held). Fits y) (sym eg) (register-fits s l ownSets)
+  provided : Provided (holding g sets)
+  provided = subst (λ (y : Held). Provided y) (sym eg) (register-provided s l ownSets)
 
   pub rows-fit : g .rows ≤ maxSize
-  rows-fit = fits .size
+  rows-fit = provided .size
 
 module _ (s : List ℕ) (l : Layout) {g : Register} {sets : List ℕ} (eg : holding g sets ≡ registerOf s l ownSets) {standings : List ℕ} (es : standings ≡ standingsOf g sets) (h : l .presses < 2 ^ 32)
     {needed : ℕ} (en : needed ≡ further 0 (length (printedBy g standings (g .marks) (acksFrom (l .presses) s (l .acks))))) (out : List ℕ) where
   by-register : printedBy g standings (g .marks) (acksFrom (l .presses) s (l .acks)) ≡ acceptedText s l
   by-register =
       ap (λ (y : List ℕ). printedBy g y (g .marks) (acksFrom (l .presses) s (l .acks))) es
-      ∙ sym (printed-agree g sets (fits s l eg .size) (fits s l eg .enough) (acksFrom (l .presses) s (l .acks)))
+      ∙ sym (printed-agree g sets (provided s l eg .size) (provided s l eg .enough) (acksFrom (l .presses) s (l .acks)))
       ∙ ap (λ (y : Held). printed y (acksFrom (l .presses) s (l .acks))) eg
 
   bound : length (printedBy g standings (g .marks) (acksFrom (l .presses) s (l .acks))) ≤ greatest

@@ -17,8 +17,8 @@ use Rattle.reach.specs.Reach.{Graph, thru}
 use Rattle.reach.specs.Closure.{ClosureOf}
 use Rattle.reach.proofs.Bools.{or-left, or-right, or-cases}
 use Rattle.reach.proofs.Reaching.{thru-cong}
-use Rattle.standing.specs.Standing.{any, trouble, leaning, standing, cleared, filled}
-use Rattle.standing.specs.Closed.{leansIn, losesIn, markedIn, standingIn}
+use Rattle.standing.specs.Standing.{any, trouble, leaning, standing, cleared, filled, markedIn}
+use Rattle.standing.specs.Closed.{leansIn, losesIn, standingIn}
 use Rattle.bits.specs.Bits.{at}
 
 pub any-intro : (n : ℕ) (p : ℕ → Bool) (j : ℕ) → j < n → p j ≡ true → any n p ≡ true

@@ -1,4 +1,4 @@
--- Internal: the standings and the marks by a closed table m, w words to a row, and by lists of states and marks. The public contracts go by Standing.antt.
+-- Internal: the standings and the marks by a closed table m, w words to a row. The public contracts go by Standing.antt.
 use Prim.Native.Nat.{ℕ}
 use mathlib.Core.List.{List}
 use mathlib.Core.Bool.{Bool, cond, _||_, _&&_}
@@ -14,10 +14,6 @@ leansIn w m states i j = at w m i j && (ltb (getD states j 0) 2 || at w m j j)
 -- "Filing r unmarks r and every row that reaches r": row j, when row i is filed
 abbrev pub losesIn : ℕ → List ℕ → ℕ → ℕ → Bool
 losesIn w m i j = eqb j i || at w m j i
-
--- row j has a mark
-abbrev pub markedIn : List ℕ → ℕ → Bool
-markedIn marks j = ltb 0 (getD marks j 0)
 
 -- the standing of row i among n
 unfoldable pub standingIn : ℕ → List ℕ → List ℕ → ℕ → ℕ → ℕ

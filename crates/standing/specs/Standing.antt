@@ -3,7 +3,7 @@
 use Prim.Native.Nat.{ℕ, zero, suc}
 use mathlib.Core.List.{List}
 use mathlib.Core.Bool.{Bool, false, cond, _||_, _&&_}
-use lib.ListN.{set}
+use lib.ListN.{set, getD}
 use lib.Dec.{ltb, eqb}
 use Rattle.reach.specs.Reach.{Graph, thru}
 
@@ -31,6 +31,10 @@ standing n state names i =
 unfoldable pub cleared : List ℕ → ℕ → (ℕ → Bool) → List ℕ
 cleared l zero p = l
 cleared l (suc n) p = cond (p n) (set (cleared l n p) n 0) (cleared l n p)
+
+-- row j has a mark: 0 is none
+abbrev pub markedIn : List ℕ → ℕ → Bool
+markedIn marks j = ltb 0 (getD marks j 0)
 
 -- l with f i at each index i below n
 unfoldable pub filled : List ℕ → ℕ → (ℕ → ℕ) → List ℕ

@@ -7,8 +7,8 @@ ghost use lib.ListN.{length, getD};
 ghost use lib.Dec.{eqb};
 ghost use Rattle.bits.specs.Bits.{at};
 ghost use Rattle.reach.specs.Reach.{thru};
-ghost use Rattle.standing.specs.Standing.{any, cleared, filled, standing};
-ghost use Rattle.standing.specs.Closed.{leansIn, losesIn, markedIn, standingIn};
+ghost use Rattle.standing.specs.Standing.{any, cleared, filled, markedIn, standing};
+ghost use Rattle.standing.specs.Closed.{leansIn, losesIn, standingIn};
 use bits::get;
 
 // Row i reaches row j, which is EMPTY, BAD or LOOP; m is a closed table.

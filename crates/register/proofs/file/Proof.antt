@@ -1,9 +1,9 @@
 -- `register::file` meets its contract. Assumes nothing.
 use borrow.Author.Needs.{needs}
 use borrow.Author.Tests.{eq-eqb, ne-eqb}
-use mathlib.Core.Path.{sym, ap₂, _∙_}
+use mathlib.Core.Path.{sym, _∙_}
 use native.Mathlib.Omega.{arith}
-use Rattle.register.specs.Calls.{fileOf, changed, left}
+use Rattle.register.specs.Calls.{fileOf}
 use Rattle.answer.proofs.Gates.{gate-ok}
 use Rattle.register.proofs.file.Statement.{statement}
 use Rattle.register.proofs.file.Tie as tie
@@ -14,7 +14,7 @@ returns c = simp (← c .before .admit .ensures, ne-eqb _ _ (c .if1 .taken))
 
 returns-2 : tie.Need-returns-2
 unfolding fileOf
-returns-2 c = simp (← c .before .before .before .before .before .admit .ensures, eq-eqb _ _ (c .before .before .before .before .if1 .left)) (ap₂ (λ x l. left (changed 0 x) l) (c .before .before .file-at .ensures .0) (c .before .before .file-at .ensures .1))
+returns-2 c = simp (← c .before .before .before .before .before .admit .ensures, eq-eqb _ _ (c .before .before .before .before .if1 .left)) (c .before .before .file-at .ensures)
 
 pub file-spec : {M : Type 1} → statement M
 file-spec =

@@ -6,8 +6,7 @@ use native.Mathlib.Omega.{arith}
 use Prim.Native.Nat.{ℕ, _≤_, _-_}
 use mathlib.Core.Bool.{false}
 use denote.Ref.{now}
-use Rattle.standing.specs.Standing.{any}
-use Rattle.standing.specs.Closed.{markedIn}
+use Rattle.standing.specs.Standing.{any, markedIn}
 use Rattle.standing.proofs.Standings.{any-none, any-more, any-intro}
 use Rattle.standing.proofs.any_marked.Statement.{statement}
 use Rattle.standing.proofs.any_marked.Tie as tie
