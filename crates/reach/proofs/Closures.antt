@@ -15,25 +15,32 @@ use native.Mathlib.Numerals.{add-one}
 use Rattle.reach.specs.Reach.{thru}
 use Rattle.reach.specs.Closure.{ClosureOf}
 use Rattle.bits.specs.Bits.{at, bit}
-use Rattle.reach.specs.Closing.{Copied, RowsCopied, Ored, RowRelaxed, Relaxed}
+use Rattle.reach.specs.Closing.{Written, Copied, RowsCopied, Ored, RowRelaxed, Relaxed}
 use Rattle.bits.proofs.BitLaws.{Apart, word-lt, pos-apart, bit-or}
 use Rattle.reach.proofs.Reaching.{thru-cong}
 
--- ---- a copy
-pub copied-none : (l t : List ℕ) (d s : ℕ) → Copied l t d s 0 l
-copied-none l t d s = record { len = refl; done = λ y h. absurd (omega arith); rest = λ p h. refl }
+-- ---- words written one after the other
+pub written-none : (l : List ℕ) (d : ℕ) (f : ℕ → ℕ) → Written l d f 0 l
+written-none l d f = record { len = refl; done = λ y h. absurd (omega arith); rest = λ p h. refl }
 
-pub copied-more : {l₀ t l : List ℕ} {d s x : ℕ} (w : ℕ) → Copied l₀ t d s x l → x < w → d + w ≤ length l₀ → Copied l₀ t d s (x + 1) (set l (d + x) (getD t (s + x) 0))
-copied-more {l₀} {t} {l} {d} {s} {x} w o h in-d = record {
-  len = length-set l (d + x) _ ∙ o .len;
+pub written-more : {l₀ l : List ℕ} {d x : ℕ} (f : ℕ → ℕ) (v : ℕ) → Written l₀ d f x l → v ≡ f x → d + x < length l₀ → Written l₀ d f (x + 1) (set l (d + x) v)
+written-more {l₀} {l} {d} {x} f v o e h = record {
+  len = length-set l (d + x) v ∙ o .len;
   done = λ y hy. by-cases (ℕ-discrete y x)
-      (λ e. subst (λ (z : ℕ). getD (set l (d + x) (getD t (s + x) 0)) (d + z) 0 ≡ getD t (s + z) 0) (sym e)
-      (getD-set-same l (d + x) (getD t (s + x) 0) 0 (omega (arith, o .len))))
-      (λ ne. getD-set-other l (d + x) (d + y) _ 0 (omega arith) ∙ o .done y (omega arith));
-  rest = λ p hp. getD-set-other l (d + x) p _ 0 (⊎-elim (λ a. omega arith) (λ a. omega arith) hp)
+      (λ q. subst (λ (z : ℕ). getD (set l (d + x) v) (d + z) 0 ≡ f z) (sym q) (getD-set-same l (d + x) v 0 (omega (arith, o .len)) ∙ e))
+      (λ ne. getD-set-other l (d + x) (d + y) v 0 (omega arith) ∙ o .done y (omega arith));
+  rest = λ p hp. getD-set-other l (d + x) p v 0 (⊎-elim (λ a. omega arith) (λ a. omega arith) hp)
       ∙ o .rest p (⊎-elim (λ a. inl a) (λ a. inr (omega arith)) hp);
 }
 
+-- one more word joined; the source is not written
+pub ored-more : {l₀ l : List ℕ} {d s x : ℕ} (w : ℕ) → Ored l₀ d s x l → x < w → d + w ≤ length l₀ → Apart d s w
+    → Ored l₀ d s (x + 1) (set l (d + x) (bitOr (getD l (d + x) 0) (getD l (s + x) 0)))
+ored-more {l₀} {l} {d} {s} {x} w o h in-d apart =
+    let kept : getD l (s + x) 0 ≡ getD l₀ (s + x) 0 = ⊎-elim (λ a. o .rest (s + x) (inl (omega arith))) (λ a. o .rest (s + x) (inr (omega arith))) apart in
+    written-more _ _ o (ap₂ bitOr (o .rest (d + x) (inr (omega arith))) kept) (omega arith)
+
+-- ---- rows copied
 pub rows-copied-none : (w v : ℕ) (l t : List ℕ) → RowsCopied w v l t 0 l
 rows-copied-none w v l t = record { len = refl; done = λ r s h hs. absurd (omega arith) }
 
@@ -46,34 +53,6 @@ rows-copied-more {w} {v} {i} {l₀} {t} {l} {l′} a b = record {
       (ap (λ (x : ℕ). bit x (s % 32)) (b .done (s / 32) (word-lt hs))))
       (λ ne. ap (λ (x : ℕ). bit x (s % 32)) (b .rest (r * w + s / 32) (pos-apart w r i (s / 32) ne (word-lt hs))) ∙ a .done r s (omega arith) hs);
 }
-
--- ---- a join
-pub ored-none : (l : List ℕ) (d s : ℕ) → Ored l d s 0 l
-ored-none l d s = record { len = refl; done = λ y h. absurd (omega arith); rest = λ p h. refl }
-
-module _ {l₀ l : List ℕ} {d s x : ℕ} (w : ℕ) (o : Ored l₀ d s x l) (h : x < w) (in-d : d + w ≤ length l₀) (apart : Apart d s w) where
-  -- the source is not written
-  kept : getD l (s + x) 0 ≡ getD l₀ (s + x) 0
-  kept = ⊎-elim (λ a. o .rest (s + x) (inl (omega arith))) (λ a. o .rest (s + x) (inr (omega arith))) apart
-
-  value : ℕ
-  value = bitOr (getD l (d + x) 0) (getD l (s + x) 0)
-
-  ored-here : getD (set l (d + x) value) (d + x) 0 ≡ bitOr (getD l₀ (d + x) 0) (getD l₀ (s + x) 0)
-  unfolding value
-  ored-here =
-      getD-set-same l (d + x) (bitOr (getD l (d + x) 0) (getD l (s + x) 0)) 0 (omega (arith, o .len)) ∙ ap₂ bitOr (o .rest (d + x) (inr (omega arith))) kept
-
-  pub ored-more : Ored l₀ d s (x + 1) (set l (d + x) (bitOr (getD l (d + x) 0) (getD l (s + x) 0)))
-  unfolding value
-  ored-more = record {
-    len = length-set l (d + x) _ ∙ o .len;
-    done = λ y hy. by-cases (ℕ-discrete y x)
-        (λ e. subst (λ (z : ℕ). getD (set l (d + x) value) (d + z) 0 ≡ bitOr (getD l₀ (d + z) 0) (getD l₀ (s + z) 0)) (sym e) ored-here)
-        (λ ne. getD-set-other l (d + x) (d + y) value 0 (omega arith) ∙ o .done y (omega arith));
-    rest = λ p hp. getD-set-other l (d + x) p value 0 (⊎-elim (λ a. omega arith) (λ a. omega arith) hp)
-        ∙ o .rest p (⊎-elim (λ a. inl a) (λ a. inr (omega arith)) hp);
-  }
 
 -- ---- rows
 module _ (w k i : ℕ) (l₀ l : List ℕ) where

@@ -2,10 +2,10 @@
 use borrow.Author.Needs.{needs}
 use Prim.Native.Nat.{ℕ, _≤_, _-_}
 use native.Mathlib.Omega.{arith}
-use mathlib.Core.Path.{_≡_, subst}
+use mathlib.Core.Path.{_≡_, refl, subst}
 use denote.Ref.{now}
 use Rattle.reach.specs.Closing.{Copied}
-use Rattle.reach.proofs.Closures.{copied-none, copied-more}
+use Rattle.reach.proofs.Closures.{written-none, written-more}
 use Rattle.reach.proofs.copy_words.Statement.{statement}
 use Rattle.reach.proofs.copy_words.Tie as tie
 
@@ -16,7 +16,7 @@ abbrev μ-loop : tie.MeasureT-loop
 μ-loop m₀ from d s w x₀ m x = w - x
 
 loop-again : tie.Need-loop-again Inv-loop μ-loop
-loop-again c = (search needs, copied-more _ (c .before .before .loop .inv .1) (c .before .loop-test .taken) (c .before .before .before .pre .0))
+loop-again c = (search needs, written-more _ _ (c .before .before .loop .inv .1) refl (omega arith))
 
 returns : tie.Need-returns Inv-loop μ-loop
 returns c =
@@ -30,7 +30,7 @@ copy-words-spec =
     (tie.spec
     Inv-loop
     μ-loop
-    (λ c. (search needs, copied-none _ _ _ _))
+    (λ c. (search needs, written-none _ _ _))
     (λ c. search needs)
     (λ c. search needs)
     (λ c. search needs)

@@ -4,7 +4,7 @@ use Prim.Native.Nat.{ℕ, _≤_, _-_}
 use native.Mathlib.Omega.{arith}
 use mathlib.Core.Path.{_≡_, subst}
 use denote.Ref.{now}
-use Rattle.reach.proofs.Closures.{ored-none, ored-more}
+use Rattle.reach.proofs.Closures.{written-none, ored-more}
 use Rattle.reach.specs.Closing.{Ored}
 use Rattle.reach.proofs.or_words.Statement.{statement}
 use Rattle.reach.proofs.or_words.Tie as tie
@@ -31,7 +31,7 @@ or-words-spec =
     (tie.spec
     Inv-loop
     μ-loop
-    (λ c. (search needs, ored-none _ _ _))
+    (λ c. (search needs, written-none _ _ _))
     (λ c. search needs)
     (λ c. search needs)
     (λ c. search needs)
