@@ -1,7 +1,7 @@
 -- Laws of tests.
 -- Assumes nothing.
 use mathlib.Core.Path.{_≡_, refl, sym}
-use mathlib.Core.Bool.{Bool, true, false, _&&_, _||_, or-true, false≢true}
+use mathlib.Core.Bool.{Bool, true, false, _&&_, _||_, or-true, false≢true, true≢false}
 use mathlib.Core.Logic.{_⊎_, inl, inr}
 
 pub or-cases : (a b : Bool) → (a || b) ≡ true → (a ≡ true) ⊎ (b ≡ true)
@@ -11,6 +11,10 @@ or-cases false b h = inr h
 pub and-both : (a b : Bool) → (a && b) ≡ true → (a ≡ true) × (b ≡ true)
 and-both true b h = (refl, h)
 and-both false b h = absurd (false≢true h)
+
+pub or-neither : (a b : Bool) → (a || b) ≡ false → (a ≡ false) × (b ≡ false)
+or-neither true b h = absurd (true≢false h)
+or-neither false b h = (refl, h)
 
 pub or-left : {a : Bool} (b : Bool) → a ≡ true → (a || b) ≡ true
 or-left b h = rw h

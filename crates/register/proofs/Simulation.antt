@@ -26,7 +26,7 @@ use Rattle.register.specs.declared.Changed.{Changed}
 use Rattle.answer.specs.Size.{maxSize, words}
 use Rattle.answer.specs.Answers.{rowGate, gate, ackCode}
 use Rattle.filing.specs.Outcome.{judged, stateOf, codeOf, placeOf, namesRow}
-use Rattle.register.specs.Calls.{Held, held, Left, left, blank, changed, openCode, openOf, filed, filedSets, filedAt, fileOf, marksAfter, marked, ackAt, ackOf, askAt, askOf, standingOf, refers}
+use Rattle.register.specs.Calls.{Held, holding, held, Left, left, blank, changed, openCode, openOf, filed, filedSets, filedAt, fileOf, marksAfter, marked, ackAt, ackOf, askAt, askOf, standingOf, refers}
 use Rattle.register.specs.Model.{Model, Call, filing, acknowledging, asking, number, report, check, outcome, stateM, refersM, standingM, touched, gateM, filedM, markedM, ackM, answerM, nextM, answersM, endM, emptyM, openingM, openedM}
 use Rattle.register.specs.Demand.{reportOf, answerR, nextR, answersR, endR}
 use Rattle.register.proofs.Openings.{open-ok}
@@ -98,7 +98,7 @@ none-sim l = record {
 -- ---- one call
 module _ {b : Model} {g : Register} {l : List ℕ} (m : Sim b g l) where
   abbrev here : Held
-  here = record { register = g; sets = l }
+  here = holding g l
 
   names-same : (r s : ℕ) → r < g .rows → s < g .rows → refers l r s ≡ refersM b r s
   names-same r s hr hs = m .row r (omega (arith, m .rows)) .names s (omega (arith, m .rows, m .size))

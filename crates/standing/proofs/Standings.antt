@@ -3,7 +3,7 @@
 use Prim.Native.Nat.{ℕ, zero, suc, _+_, _<_, _≤_}
 use mathlib.Core.Path.{_≡_, refl, sym, ap, _∙_, subst}
 use mathlib.Core.List.{List}
-use mathlib.Core.Bool.{Bool, true, false, cond, _||_, false≢true, true≢false}
+use mathlib.Core.Bool.{Bool, true, false, cond, _||_, false≢true}
 use mathlib.Core.Logic.{⊎-elim, by-cases}
 use native.Mathlib.Omega.{arith}
 use native.Mathlib.Decide.{ℕ-discrete}
@@ -15,7 +15,7 @@ use lib.Dec.{eqb, ltb}
 use borrow.Author.Tests.{lt-ltb, le-ltb, ltb-false, ne-eqb}
 use Rattle.reach.specs.Reach.{Graph, thru}
 use Rattle.reach.specs.Closure.{ClosureOf}
-use Rattle.reach.proofs.Bools.{or-left, or-right, or-cases}
+use Rattle.reach.proofs.Bools.{or-neither, or-left, or-right, or-cases}
 use Rattle.reach.proofs.Reaching.{thru-cong}
 use Rattle.standing.specs.Standing.{any, trouble, leaning, standing, cleared, filled, markedIn}
 use Rattle.standing.specs.Closed.{leansIn, losesIn, standingIn}
@@ -45,14 +45,6 @@ pub any-cong : (n : ℕ) (p q : ℕ → Bool) → ((j : ℕ) → j < n → p j �
 unfolding any
 any-cong zero p q e = refl
 any-cong (suc n) p q e = rw (any-cong n p q (λ j h. e j (omega arith)), e n (le-refl (suc n)))
-
-or-none-left : (a b : Bool) → (a || b) ≡ false → a ≡ false
-or-none-left true b h = h
-or-none-left false b h = refl
-
-or-none-right : (a b : Bool) → (a || b) ≡ false → b ≡ false
-or-none-right true b h = absurd (true≢false h)
-or-none-right false b h = h
 
 -- ---- cleared
 pub length-picked : (b : Bool) (l : List ℕ) (n : ℕ) → length (cond b (set l n 0) l) ≡ length l
@@ -112,8 +104,9 @@ pub cleared-unmarked : (l : List ℕ) (n : ℕ) (p : ℕ → Bool) → any n (ma
 unfolding any cleared
 cleared-unmarked l zero p h = refl
 cleared-unmarked l (suc n) p h =
-    let e = cleared-unmarked l n p (or-none-left (any n (markedIn l)) (markedIn l n) h) in
-    let z = ltb-false 0 (getD l n 0) (or-none-right (any n (markedIn l)) (markedIn l n) h) in
+    let f = or-neither (any n (markedIn l)) (markedIn l n) h in
+    let e = cleared-unmarked l n p (f .0) in
+    let z = ltb-false 0 (getD l n 0) (f .1) in
     let k : getD l n 0 ≡ 0 = omega arith in
     rw e (same-picked (p n) (ap (set l n) (sym k) ∙ set-getD l n 0))
   where
