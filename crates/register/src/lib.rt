@@ -13,7 +13,7 @@ use filing::judge_row;
 use grammar::MAX_ROWS;
 use number::token::Counts;
 
-// Up to so many rows, a row is asked with this many words to a row in the closed table, which is then small enough to be closed quickly.
+// Up to so many rows, a row is asked or filed with FEW_WORDS words to a row in the closed table, which is then small enough to be closed quickly.
 const FEW: usize = 64;
 
 const FEW_WORDS: usize = FEW / 32;
@@ -132,6 +132,11 @@ fn marks_after(g: Register, i: usize, sets: &[u32]) -> [u8; SIZE]
     let n = g.rows;
     let mut marks = g.marks;
     if standing::any_marked(&marks, n) {
+        if n <= FEW {
+            let mut room = [0u32; FEW * FEW_WORDS];
+            standing::unmark_among(&mut marks, &mut room, FEW_WORDS, sets, WORDS, n, i);
+            return marks;
+        }
         let mut room = [0u32; SIZE * WORDS];
         standing::unmark_among(&mut marks, &mut room, WORDS, sets, WORDS, n, i);
         return marks;
