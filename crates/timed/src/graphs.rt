@@ -51,13 +51,16 @@ fn next_seed(seed: u64) -> u64 {
     (seed % 0x100000000 * 1664525 + 1013904223) % 0x100000000
 }
 
-// The row that a random number names.
-fn row_of(seed: u64) -> usize {
-    (seed / 0x10000 % SIZE as u64) as usize + 1
+// The row of `rows` that a random number names.
+fn row_of(rows: usize, seed: u64) -> usize
+    requires { ⌜ 0 < rows ⌝ }
+{
+    (seed / 0x10000) as usize % rows + 1
 }
 
-// A type that names four rows at random.
-fn random_type(seed: u64) -> Made
+// A type that names four of `rows` at random.
+fn random_type(rows: usize, seed: u64) -> Made
+    requires { ⌜ 0 < rows ⌝ }
     ensures { λ r. ⌜ r .length ≤ 16 ⌝ }
 {
     let one = next_seed(seed);
@@ -65,10 +68,10 @@ fn random_type(seed: u64) -> Made
     let three = next_seed(two);
     let four = next_seed(three);
     let mut blob = [0u8; 16];
-    let at = put_modifier(&mut blob, 0, row_of(one));
-    let at = put_modifier(&mut blob, at, row_of(two));
-    let at = put_modifier(&mut blob, at, row_of(three));
-    let at = put_modifier(&mut blob, at, row_of(four));
+    let at = put_modifier(&mut blob, 0, row_of(rows, one));
+    let at = put_modifier(&mut blob, at, row_of(rows, two));
+    let at = put_modifier(&mut blob, at, row_of(rows, three));
+    let at = put_modifier(&mut blob, at, row_of(rows, four));
     let length = put_type(&mut blob, at);
     Made {
         blob,
@@ -93,12 +96,12 @@ fn naming(row: usize, seed: u64) -> Made
 
 // The type of row i, counted from 0, of `rows`.
 pub fn type_of(graph: Graph, rows: usize, i: usize, seed: u64) -> Made
-    requires { ⌜ i < maxSize ⌝ }
+    requires { ⌜ (i < rows) × (i < maxSize) ⌝ }
     ensures { λ r. ⌜ r .length ≤ 16 ⌝ }
 {
     let next = i + 2;
     match graph {
-        Graph::Random => random_type(seed),
+        Graph::Random => random_type(rows, seed),
         Graph::Cycle => {
             let row = if next <= rows { next } else { 1 };
             naming(row, seed)

@@ -38,15 +38,24 @@ pub fn numbers() -> u64 {
     sum
 }
 
+// Row 32, counted from 0: it has a mark while rows are filed.
+const MARKED: usize = 31;
+
 // A register after a filing, and where the random numbers stand.
 struct Filed {
     register: Register,
     seed: u64,
 }
 
+// A register after all its rows were filed, and how many of the filings left the mark.
+struct Round {
+    register: Register,
+    kept: u64,
+}
+
 // Files for row i, counted from 0, its type.
 fn file(g: Register, graph: Graph, rows: usize, i: usize, seed: u64, sets: &mut Sets) -> Filed
-    requires { ⌜ i < maxSize ⌝ }
+    requires { ⌜ (i < rows) × (i < maxSize) ⌝ }
 {
     let made = type_of(graph, rows, i, seed);
     let blob = made.blob;
@@ -59,18 +68,30 @@ fn file(g: Register, graph: Graph, rows: usize, i: usize, seed: u64, sets: &mut 
     }
 }
 
-// A register of so many rows, all filed.
-fn filled(graph: Graph, rows: usize, sets: &mut Sets) -> Register {
-    let mut g = register::open(0, 0, rows, sets).register;
+// Files each row, one after the other, its type; before each filing row 32 gets this mark.
+fn file_all(g: Register, graph: Graph, mark: u8, sets: &mut Sets) -> Round {
+    let rows = g.rows;
+    let mut register = g;
     let mut seed: u64 = 1;
+    let mut kept: u64 = 0;
     for i in 0..SIZE {
         if i < rows {
-            let filed = file(g, graph, rows, i, seed, sets);
-            g = filed.register;
+            register.marks[MARKED] = mark;
+            let filed = file(register, graph, rows, i, seed, sets);
+            register = filed.register;
             seed = filed.seed;
+            if register.marks[MARKED] != 0 {
+                kept = kept % 0x100000000 + 1;
+            }
         }
     }
-    g
+    Round { register, kept }
+}
+
+// A register of so many rows, all filed.
+fn filled(graph: Graph, rows: usize, sets: &mut Sets) -> Register {
+    let opened = register::open(0, 0, rows, sets);
+    file_all(opened.register, graph, 0, sets).register
 }
 
 fn ask(g: Register, row: usize, sets: &Sets) -> u32 {
@@ -99,16 +120,15 @@ pub fn asks(graph: Graph, rows: usize, rounds: u32) -> u64 {
     sum
 }
 
-// Files each row of 512 once again, each time with row 1 marked, so that the rows that reach the filed one are looked for.
-pub fn files(graph: Graph) -> u64 {
+// Files each row so many times again, each time with row 32 marked, so that the rows that reach the filed one are looked for.
+pub fn files(graph: Graph, rows: usize, rounds: u32) -> u64 {
     let mut sets = [0u32; SIZE * WORDS];
-    let mut g = filled(graph, SIZE, &mut sets);
-    let mut seed: u64 = 1;
-    for i in 0..SIZE {
-        g.marks[0] = 1;
-        let filed = file(g, graph, SIZE, i, seed, &mut sets);
-        g = filed.register;
-        seed = filed.seed;
+    let mut g = filled(graph, rows, &mut sets);
+    let mut kept: u64 = 0;
+    for _ in 0..rounds {
+        let round = file_all(g, graph, 1, &mut sets);
+        g = round.register;
+        kept = kept % 0x100000000 + round.kept % 0x100000000;
     }
-    ask(g, 1, &sets) as u64
+    kept
 }

@@ -1,5 +1,5 @@
-// Runs a job that the benchmark times: 10,000 numbers of one byte read 10,000 times; each row of 64 in a cycle asked 1,000 times; each row of 512
-// asked once, or filed once again. Prints a sum over what the calls answered, so that none can be left out.
+// Runs a job that the benchmark times: 10,000 numbers of one byte read 10,000 times; each row of 512 asked once, or filed once again; each row of 64
+// asked or filed 1,000 times. Prints the sum of the numbers or of the standings, or how many filings left one row's mark: the benchmark holds it to the reference's.
 mod graphs;
 mod jobs;
 
@@ -7,7 +7,7 @@ use graphs::Graph;
 use libc::STDOUT_FILENO;
 use register::SIZE;
 
-// The 512 rows that a letter names.
+// How the rows name each other, by a letter.
 fn graph_of(letter: u8) -> Graph {
     match letter {
         b'c' => Graph::Cycle,
@@ -16,17 +16,12 @@ fn graph_of(letter: u8) -> Graph {
     }
 }
 
-// The sum of the job with this letter, over the rows with that one.
-fn run(job: u8, rows: u8) -> u64 {
+// The sum of the job with this letter, over rows that name each other so.
+fn run(job: u8, graph: Graph, rows: usize, rounds: u32) -> u64 {
     match job {
         b'n' => jobs::numbers(),
-        b'a' => {
-            if rows == b's' {
-                return jobs::asks(Graph::Cycle, 64, 1000);
-            }
-            jobs::asks(graph_of(rows), SIZE, 1)
-        }
-        b'f' => jobs::files(graph_of(rows)),
+        b'a' => jobs::asks(graph, rows, rounds),
+        b'f' => jobs::files(graph, rows, rounds),
         _ => 0,
     }
 }
@@ -35,14 +30,22 @@ fn main() {
     if os::arg_count() < 2 {
         io::write_all(
             STDOUT_FILENO,
-            b"usage: timed numbers | asks small|cycle|line|random | files cycle|line|random\n",
+            b"usage: timed numbers | asks GRAPH [small] | files GRAPH [small]; GRAPH: cycle, line, random\n",
         );
         return;
     }
     let mut job = [0u8; 8];
-    let mut rows = [0u8; 8];
+    let mut graph = [0u8; 8];
+    let mut size = [0u8; 8];
     os::arg(1, &mut job);
-    os::arg(2, &mut rows);
-    io::print_decimal(STDOUT_FILENO, run(job[0], rows[0]));
+    os::arg(2, &mut graph);
+    os::arg(3, &mut size);
+    let graph = graph_of(graph[0]);
+    let sum = if size[0] == b's' {
+        run(job[0], graph, 64, 1000)
+    } else {
+        run(job[0], graph, SIZE, 1)
+    };
+    io::print_decimal(STDOUT_FILENO, sum);
     io::write_all(STDOUT_FILENO, b"\n");
 }

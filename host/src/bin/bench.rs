@@ -297,13 +297,33 @@ mod jobs {
     use host::reference::decode;
     use host::sheet::{run_sheet, Model, MOST_SIZE};
     use std::io;
-    use std::process::{Command, Stdio};
+    use std::process::{Command, Output, Stdio};
 
     const RUNS: usize = 20;
     const NUMBERS: usize = 10_000;
     const NUMBER_ROUNDS: u32 = 10_000;
-    const SMALL: u32 = 64;
-    const SMALL_ROUNDS: u32 = 1_000;
+    /// The row that has a mark while rows are filed.
+    const MARKED: u32 = 32;
+
+    /// Registers of so many rows: the program's word for them, and how often each row is asked or filed.
+    struct Size {
+        word: &'static str,
+        rows: u32,
+        rounds: u32,
+    }
+
+    const SIZES: [Size; 2] = [
+        Size {
+            word: "small",
+            rows: 64,
+            rounds: 1_000,
+        },
+        Size {
+            word: "",
+            rows: MOST_SIZE,
+            rounds: 1,
+        },
+    ];
 
     /// How the rows of a register name each other: the program's word for it, and the table's.
     struct Shape {
@@ -316,21 +336,22 @@ mod jobs {
         let timed = programs.join("timed");
         let mut text = String::from("| job | ours | reference | ratio |\n|---|--:|--:|--:|\n");
         text += &numbers(&timed)?;
-        text += &small_asks(&timed)?;
-        for shape in shapes() {
-            text += &asks(&timed, &shape)?;
-        }
-        for shape in shapes() {
-            text += &files(&timed, &shape)?;
+        for size in SIZES {
+            for shape in shapes(size.rows) {
+                text += &asks(&timed, &size, &shape)?;
+            }
+            for shape in shapes(size.rows) {
+                text += &files(&timed, &size, &shape)?;
+            }
         }
         text += &worst(&programs.join("panel"))?;
         writeln!(
             text,
-            "\nThe best of {RUNS} runs in turn. Ours are whole processes, less the time of one that does no job. Of 512 rows each is asked once, or filed once \
-             more with its own blob while row 1 has a mark, so that the rows that reach the filed one are looked for; building the register, a filing for each \
-             row with no mark anywhere, is in our time too, and less than a hundredth of it. The worst sheet has 512 rows in a cycle, the rest are presses; our \
-             time has its file read and its text written to nowhere in it. The reference's are calls in this process: it keeps blobs and marks alone, and \
-             judges all blobs afresh in each call, or once for a sheet."
+            "\nThe best of {RUNS} runs in turn. Ours are whole processes, less the time of one that does no job. Each row is asked, or filed once more with its \
+             own blob while row 32 has a mark, so that the rows that reach the filed one are looked for: of 512 rows once, of 64 rows 1,000 times. Building the \
+             register, a filing for each row with no mark anywhere, is in our time too, and less than a hundredth of it. The worst sheet has 512 rows in a \
+             cycle, the rest are presses; our time has its file read and its text written to nowhere in it. The reference's are calls in this process: it keeps \
+             blobs and marks alone, and judges all blobs afresh in each call, or once for a sheet."
         )
         .expect("a string takes all");
         Ok(text)
@@ -349,46 +370,42 @@ mod jobs {
     fn numbers(timed: &Path) -> io::Result<String> {
         let bytes = [5; NUMBERS];
         let times = best(timed, &["numbers"], || {
-            for _ in 0..NUMBER_ROUNDS {
-                black_box(sum(black_box(&bytes)));
-            }
+            let sums = (0..NUMBER_ROUNDS).map(|_| sum(black_box(&bytes)));
+            line_with(sums.sum())
         })?;
         let name = "10,000 numbers of one byte, summed";
         Ok(line_of(name, "µs", microseconds(times, NUMBER_ROUNDS)))
     }
 
-    fn small_asks(timed: &Path) -> io::Result<String> {
-        let model = Model::filed(0, 0, &cycle(SMALL));
-        let calls = SMALL_ROUNDS * SMALL;
-        let times = best(timed, &["asks", "small"], || {
-            for call in 0..calls {
-                black_box(black_box(&model).ask(call % SMALL + 1));
-            }
-        })?;
-        let name = "a row asked, 64 rows in a cycle";
-        Ok(line_of(name, "µs", microseconds(times, calls)))
-    }
-
-    fn asks(timed: &Path, shape: &Shape) -> io::Result<String> {
+    fn asks(timed: &Path, size: &Size, shape: &Shape) -> io::Result<String> {
         let model = Model::filed(0, 0, &shape.blobs);
-        let times = best(timed, &["asks", shape.word], || {
-            for row in 1..=MOST_SIZE {
-                black_box(black_box(&model).ask(row));
-            }
+        let times = best(timed, &["asks", shape.word, size.word], || {
+            let asked = (0..size.rounds * size.rows)
+                .map(|call| black_box(&model).ask(call % size.rows + 1));
+            line_with(asked.map(|asked| u64::from(asked.standing)).sum())
         })?;
-        let name = format!("a row asked, 512 rows {}", shape.name);
-        Ok(line_of(&name, "µs", microseconds(times, MOST_SIZE)))
+        Ok(register_line("asked", size, shape, times))
     }
 
-    fn files(timed: &Path, shape: &Shape) -> io::Result<String> {
+    fn files(timed: &Path, size: &Size, shape: &Shape) -> io::Result<String> {
         let mut model = Model::filed(0, 0, &shape.blobs);
-        let times = best(timed, &["files", shape.word], || {
-            for (row, blob) in (1..).zip(&shape.blobs) {
-                black_box(black_box(&mut model).file(row, blob));
+        let times = best(timed, &["files", shape.word, size.word], || {
+            let mut kept = 0;
+            for _ in 0..size.rounds {
+                for (row, blob) in (1..).zip(&shape.blobs) {
+                    *model.mark_mut(MARKED) = true;
+                    black_box(black_box(&mut model).file(row, blob));
+                    kept += u64::from(*model.mark_mut(MARKED));
+                }
             }
+            line_with(kept)
         })?;
-        let name = format!("a row filed, 512 rows {}", shape.name);
-        Ok(line_of(&name, "µs", microseconds(times, MOST_SIZE)))
+        Ok(register_line("filed", size, shape, times))
+    }
+
+    fn register_line(done: &str, size: &Size, shape: &Shape, times: [f64; 2]) -> String {
+        let name = format!("a row {done}, {} rows {}", size.rows, shape.name);
+        line_of(&name, "µs", microseconds(times, size.rounds * size.rows))
     }
 
     fn worst(panel: &Path) -> io::Result<String> {
@@ -396,21 +413,28 @@ mod jobs {
         let sheet = longest_sheet(&cycle(MOST_SIZE));
         std::fs::write(&file, &sheet)?;
         let times = best(panel, &[&file.to_string_lossy()], || {
-            black_box(run_sheet(black_box(&sheet)));
+            run_sheet(black_box(&sheet))
         })?;
         std::fs::remove_file(&file)?;
         let name = "the worst sheet, 65,536 bytes";
         Ok(line_of(name, "ms", times.map(|ns| ns / 1e6)))
     }
 
-    /// Nanoseconds of a program's job and of the reference's.
-    fn best(program: &Path, words: &[&str], mut reference: impl FnMut()) -> io::Result<[f64; 2]> {
+    /// Nanoseconds of a program's job and of the reference's, which have to print the same.
+    fn best(
+        program: &Path,
+        words: &[&str],
+        mut reference: impl FnMut() -> Vec<u8>,
+    ) -> io::Result<[f64; 2]> {
+        if run(program, words, Stdio::piped())?.stdout != reference() {
+            return Err(io::Error::other(format!("{words:?}: another answer")));
+        }
         let mut best = [f64::INFINITY; 3];
         for _ in 0..RUNS {
             best[0] = best[0].min(process(program, words)?);
             best[1] = best[1].min(process(program, &[])?);
             let start = Instant::now();
-            reference();
+            black_box(reference());
             best[2] = best[2].min(start.elapsed().as_nanos() as f64);
         }
         Ok([best[0] - best[1], best[2]])
@@ -418,12 +442,25 @@ mod jobs {
 
     fn process(program: &Path, words: &[&str]) -> io::Result<f64> {
         let start = Instant::now();
-        Command::new(program)
+        run(program, words, Stdio::null())?;
+        Ok(start.elapsed().as_nanos() as f64)
+    }
+
+    fn run(program: &Path, words: &[&str], stdout: Stdio) -> io::Result<Output> {
+        let output = Command::new(program)
             .args(words)
             .stdin(Stdio::null())
-            .stdout(Stdio::null())
-            .status()?;
-        Ok(start.elapsed().as_nanos() as f64)
+            .stdout(stdout)
+            .output()?;
+        match output.status.success() {
+            true => Ok(output),
+            false => Err(io::Error::other(format!("{words:?}: {}", output.status))),
+        }
+    }
+
+    /// What a program prints of a job.
+    fn line_with(number: u64) -> Vec<u8> {
+        format!("{number}\n").into_bytes()
     }
 
     /// The sum of the numbers that stand one after the other.
@@ -437,22 +474,22 @@ mod jobs {
         sum
     }
 
-    fn shapes() -> [Shape; 3] {
+    fn shapes(rows: u32) -> [Shape; 3] {
         [
             Shape {
                 word: "line",
                 name: "in a line",
-                blobs: line(MOST_SIZE, &[0x08]),
+                blobs: line(rows, &[0x08]),
             },
             Shape {
                 word: "cycle",
                 name: "in a cycle",
-                blobs: cycle(MOST_SIZE),
+                blobs: cycle(rows),
             },
             Shape {
                 word: "random",
                 name: "that each name 4 at random",
-                blobs: random(),
+                blobs: random(rows),
             },
         ]
     }
@@ -462,14 +499,14 @@ mod jobs {
         line(size, &naming(&[1]))
     }
 
-    /// Each of 512 rows names four, found by a generator that the programs have too.
-    fn random() -> Vec<Vec<u8>> {
+    /// Each row names four, found by a generator that the programs have too.
+    fn random(rows: u32) -> Vec<Vec<u8>> {
         let mut x: u32 = 1;
         let mut any = || {
             x = x.wrapping_mul(1_664_525).wrapping_add(1_013_904_223);
-            (x >> 16) % MOST_SIZE + 1
+            (x >> 16) % rows + 1
         };
-        (0..MOST_SIZE)
+        (0..rows)
             .map(|_| naming(&[any(), any(), any(), any()]))
             .collect()
     }

@@ -106,6 +106,11 @@ impl Model {
         0
     }
 
+    /// The mark of a row that is there, to be set whatever its standing: no call does so, but a benchmark of filings wants a mark in any register.
+    pub fn mark_mut(&mut self, row: u32) -> &mut bool {
+        &mut self.rows[row as usize - 1].mark
+    }
+
     pub fn acknowledge(&mut self, row: u32) -> u32 {
         let Some(index) = self.index(row) else {
             return 16;

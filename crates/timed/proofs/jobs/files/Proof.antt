@@ -5,10 +5,10 @@ use Rattle.timed.proofs.jobs.files.Statement.{statement}
 use Rattle.timed.proofs.jobs.files.Tie as tie
 
 abbrev Inv-loop : tie.InvT-loop
-Inv-loop graph sets₀ g₀ seed₀ i₀ sets g seed i = i ≤ 512
+Inv-loop graph rows rounds sets₀ g₀ kept₀ counter₀ sets g kept counter = counter ≤ rounds
 
 abbrev μ-loop : tie.MeasureT-loop
-μ-loop graph sets₀ g₀ seed₀ i₀ sets g seed i = 512 - i
+μ-loop graph rows rounds sets₀ g₀ kept₀ counter₀ sets g kept counter = rounds - counter
 
 pub files-spec : {M : Type 1} → statement M
 files-spec =
@@ -18,11 +18,9 @@ files-spec =
     μ-loop
     (λ c κs. search needs)
     (λ c. search needs)
-    (λ c. search needs)
     (λ c κs. search needs)
     (λ c. search needs)
     (λ c. search needs)
     (λ c. search needs)
-    (λ c κs. search needs)
     (λ c. search needs)
     (λ c. search needs))
