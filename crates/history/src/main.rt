@@ -85,25 +85,30 @@ fn refilings(g: Register, sets: &mut Sets) -> Register {
     g
 }
 
-// A register value that no call hands back.
+// A register value that no call hands back. The refused filing leaves what row 1 names.
 fn forged(g: Register, sets: &mut Sets) {
     let mut h = g;
     h.rows = 513;
-    let h = print::file(h, 0, b"\x08", sets);
+    let h = print::file(h, 1, b"\x08", sets);
+    print::word(sets, 0);
     let h = print::acknowledge(h, 1, sets);
     print::ask(h, 514, sets);
 }
 
-// Too few numbers lent: 47 for three rows at the opening, then 79 for five rows that were opened with enough; 19 comes before 27, and that before 16.
+// Too few numbers lent: 47 for three rows at the opening, then 79 for five rows that were opened with enough; 19 comes before 27, and that before 16. They
+// are left as they were.
 fn too_few(g: Register) {
-    let mut few = [0u32; 79];
-    let mut fewer = [0u32; 47];
+    let mut few = [0xFFFFFFFFu32; 79];
+    let mut fewer = [0xFFFFFFFFu32; 47];
     let none = print::open(0, 0, 3, &mut fewer);
+    print::word(&fewer, 0);
     print::ask(none, 1, &fewer);
     let none = print::file(none, 1, b"\x08", &mut fewer);
     print::acknowledge(none, 1, &fewer);
     print::open(0, 0, 513, &mut fewer);
     let g = print::file(g, 6, b"\x08", &mut few);
+    let g = print::file(g, 2, b"\x08", &mut few);
+    print::word(&few, 16);
     let g = print::acknowledge(g, 6, &few);
     print::ask(g, 6, &few);
     let enough = [0u32; 80];
