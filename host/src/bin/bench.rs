@@ -452,10 +452,10 @@ mod jobs {
             .stdin(Stdio::null())
             .stdout(stdout)
             .output()?;
-        match output.status.success() {
-            true => Ok(output),
-            false => Err(io::Error::other(format!("{words:?}: {}", output.status))),
+        if !output.status.success() {
+            return Err(io::Error::other(format!("{words:?}: {}", output.status)));
         }
+        Ok(output)
     }
 
     /// What a program prints of a job.
