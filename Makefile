@@ -20,7 +20,7 @@ host-test:
 	@rt check panel >target/panel.log 2>&1 || { cat target/panel.log; exit 1; }
 	@for sheet in examples/*.sheet; do (ulimit -s 1280; exec env -i target/bin/panel $$sheet) | cmp - $${sheet%.sheet}.txt; done
 	@if command -v cargo >/dev/null && command -v cc >/dev/null; then \
-	    rt staticlib host >target/staticlib.log 2>&1 || { cat target/staticlib.log; exit 1; }; \
+	    rt staticlib dawnclavier >target/staticlib.log 2>&1 || { cat target/staticlib.log; exit 1; }; \
 	    cd host; \
 	    cargo test --quiet --release --offline --features archive; \
 	    cargo run --quiet --release --offline --features archive --bin differential; \
@@ -35,7 +35,7 @@ host-test:
 bench:
 	@tools/measure
 	@rt check timed panel >target/bench.log 2>&1 || { cat target/bench.log; exit 1; }
-	@rt staticlib host >target/staticlib.log 2>&1 || { cat target/staticlib.log; exit 1; }
+	@rt staticlib dawnclavier >target/staticlib.log 2>&1 || { cat target/staticlib.log; exit 1; }
 	@cd host && cargo run --quiet --release --offline --features archive --bin bench -- ../target/bench.md ../target/bench.csv ../target/bin
 	@tools/plot target/bench.csv docs/bench.svg
 	@{ sed '/^## Last run/q' docs/BENCH.md; echo; cat target/bench.md; } >target/BENCH.md && mv target/BENCH.md docs/BENCH.md

@@ -9,7 +9,7 @@ fn main() {
     let here = std::env::var("CARGO_MANIFEST_DIR").expect("cargo names the package's directory");
     let dir =
         std::env::var("HOST_ARCHIVE_DIR").unwrap_or_else(|_| format!("{here}/../target/staticlib"));
-    println!("cargo:rerun-if-changed={dir}/libhost.a");
+    println!("cargo:rerun-if-changed={dir}/libdawnclavier.a");
     println!("cargo:rustc-link-search=native={dir}");
-    println!("cargo:rustc-link-lib=static=host");
+    println!("cargo:rustc-link-lib=static=dawnclavier");
 }

@@ -23,7 +23,7 @@ struct Sheet<'s> {
     type_defs: u32,
     type_refs: u32,
     blobs: Vec<&'s [u8]>,
-    presses: Vec<u32>,
+    acks: Vec<u32>,
 }
 
 struct Cursor<'s> {
@@ -69,9 +69,9 @@ fn parse(bytes: &[u8]) -> Result<Sheet<'_>, usize> {
     for _ in 0..cursor.ruled(1, MOST_SIZE)? {
         blobs.push(cursor.blob()?);
     }
-    let mut presses = Vec::new();
+    let mut acks = Vec::new();
     for _ in 0..cursor.number()? {
-        presses.push(cursor.number()?);
+        acks.push(cursor.number()?);
     }
     if cursor.pos < bytes.len() {
         return Err(cursor.pos);
@@ -80,25 +80,25 @@ fn parse(bytes: &[u8]) -> Result<Sheet<'_>, usize> {
         type_defs,
         type_refs,
         blobs,
-        presses,
+        acks,
     })
 }
 
-/// All filings come before all presses, so that one check serves every press and every row.
+/// All filings come before all acknowledgements, so that one check serves every acknowledgement and every row.
 fn print(sheet: &Sheet) -> String {
     let mut rows = Model::filed(sheet.type_defs, sheet.type_refs, &sheet.blobs).ask_all();
-    let mut press = |row: u32| match rows.get_mut((row as usize).wrapping_sub(1)) {
-        Some(asked) => asked.press(),
+    let mut acknowledge = |row: u32| match rows.get_mut((row as usize).wrapping_sub(1)) {
+        Some(asked) => asked.acknowledge(),
         None => 16,
     };
-    let answers: Vec<u32> = sheet.presses.iter().map(|&row| press(row)).collect();
+    let answers: Vec<u32> = sheet.acks.iter().map(|&row| acknowledge(row)).collect();
     let mut text = String::from("row standing code place mark\n");
     for (row, asked) in (1..).zip(&rows) {
         let standing = NAMES[asked.standing as usize];
         let (finding, place, mark) = (asked.finding, asked.place, asked.mark);
         writeln!(text, "{row} {standing} {finding} {place} {mark}").expect("a string takes all");
     }
-    for (row, answer) in sheet.presses.iter().zip(answers) {
+    for (row, answer) in sheet.acks.iter().zip(answers) {
         writeln!(text, "ack {row} {answer}").expect("a string takes all");
     }
     text

@@ -171,7 +171,7 @@ fn beginning(rng: &mut Rng, size: usize, most: usize) -> Vec<Filed> {
         .collect()
 }
 
-/// Presses and refilings in turn; gives how many marks the refilings took.
+/// Acknowledgements and refilings in turn; gives how many marks the refilings took.
 fn large_history(rng: &mut Rng, mut model: Model, mut account: Account) -> usize {
     let size = account.rows.len();
     let mut taken = 0;

@@ -185,7 +185,7 @@ fn a_long_blob_is_bad_and_no_sheet_fault() {
 
 /// The sheet's answers come from one check: they are those of the calls made one by one.
 #[test]
-fn one_check_serves_all_presses() {
+fn one_check_serves_all_acknowledgements() {
     let mut rng = Rng::new(8);
     for size in [1, 2, 5, 64, 65, 130] {
         let any = |rng: &mut Rng| rng.below(size) as u32 + 1;
@@ -196,22 +196,22 @@ fn one_check_serves_all_presses() {
                 _ => naming(&[]),
             })
             .collect();
-        let presses: Vec<u32> = (0..3 * size).map(|_| rng.below(size + 2) as u32).collect();
+        let acks: Vec<u32> = (0..3 * size).map(|_| rng.below(size + 2) as u32).collect();
         let (mut model, _) = Model::open(0, 0, size as u32, size * 16);
         for (row, blob) in (1..).zip(&blobs) {
             assert_eq!(model.file(row, blob), 0);
         }
-        let answers: Vec<u32> = presses.iter().map(|&row| model.acknowledge(row)).collect();
+        let answers: Vec<u32> = acks.iter().map(|&row| model.acknowledge(row)).collect();
         let mut printed = String::from("row standing code place mark\n");
         for row in 1..=size as u32 {
             let [_, standing, finding, place, mark] = asked(&model, row);
             let standing = ["EMPTY", "BAD", "LOOP", "LEANS", "CLEAN"][standing as usize];
             writeln!(printed, "{row} {standing} {finding} {place} {mark}").unwrap();
         }
-        for (row, answer) in presses.iter().zip(answers) {
+        for (row, answer) in acks.iter().zip(answers) {
             writeln!(printed, "ack {row} {answer}").unwrap();
         }
-        assert_eq!(text(&sheet_of(0, 0, &blobs, &presses)), printed);
+        assert_eq!(text(&sheet_of(0, 0, &blobs, &acks)), printed);
     }
 }
 

@@ -1,18 +1,23 @@
--- Document 01, "The register": what the calls answer, by the number of rows, the numbers lent and what is kept of a row.
+-- What every call answers, and document 01, "The register": what its calls answer, by the number of rows, the numbers lent and what is kept of a row.
 use Prim.Native.Nat.{ℕ, _*_}
 use mathlib.Core.Bool.{cond, _||_}
 use lib.Dec.{ltb, eqb}
 use Rattle.answer.specs.Size.{maxSize, words}
+use Rattle.answer.specs.declared.Answer.{Answer}
 use Rattle.answer.specs.declared.Asked.{Asked}
 
+-- a number and its place
+abbrev pub answer : (code place : ℕ) → Answer
+answer code place = record { code = code; place = place }
+
 -- 16 "row not in 1..rows", else 0
-unfoldable pub rowGate : (rows row : ℕ) → ℕ
-rowGate rows row = cond (eqb row 0 || ltb rows row) 16 0
+unfoldable pub rowCode : (rows row : ℕ) → ℕ
+rowCode rows row = cond (eqb row 0 || ltb rows row) 16 0
 
 -- "Filing, asking and acknowledging first answer 19 for a register whose row number is above" the greatest; then, document 02, 27 where fewer
 -- numbers are lent than its rows need; then 16 or 0
-unfoldable pub gate : (lent rows row : ℕ) → ℕ
-gate lent rows row = cond (ltb maxSize rows) 19 (cond (ltb lent (rows * words)) 27 (rowGate rows row))
+unfoldable pub admitCode : (lent rows row : ℕ) → ℕ
+admitCode lent rows row = cond (ltb maxSize rows) 19 (cond (ltb lent (rows * words)) 27 (rowCode rows row))
 
 -- "17 if the row stands EMPTY or CLEAN; 18 if it has a mark", else 0
 unfoldable pub ackCode : (standing mark : ℕ) → ℕ

@@ -1,12 +1,19 @@
-// What the register's calls answer, by plain numbers: the number of rows, how many words are lent, and a row's standing, state, finding, place and mark.
+// What the calls answer; and what the register's answer, by plain numbers: the number of rows, how many words are lent, and a row's standing, state,
+// finding, place and mark.
 ghost use mathlib.Core.Path.{_≡_};
-ghost use Rattle.answer.specs.Answers.{rowGate, gate, ackCode, askedOf};
+ghost use Rattle.answer.specs.Answers.{rowCode, admitCode, ackCode, askedOf};
 
 // The most rows.
-pub const SIZE: usize = 512;
+pub const MAX_SIZE: usize = 512;
 
 // The words of 32 bits that are lent for each row, to hold its set of rows.
 pub const WORDS: usize = 16;
+
+// A number, 0 for done, with its place: how many nodes or bytes there are, or where a refusal stands.
+pub struct Answer {
+    pub code: u32,
+    pub place: usize,
+}
 
 pub struct Asked {
     pub code: u32,
@@ -18,7 +25,7 @@ pub struct Asked {
 
 // 16 or 0: whether there is such a row.
 pub fn row_code(rows: usize, row: usize) -> u32
-    ensures { λ r. ⌜ r ≡ rowGate rows row ⌝ }
+    ensures { λ r. ⌜ r ≡ rowCode rows row ⌝ }
 {
     if row == 0 {
         return 16;
@@ -30,10 +37,10 @@ pub fn row_code(rows: usize, row: usize) -> u32
 }
 
 // 19, 27, 16 or 0: the refusals that come first on any call but opening, with so many words lent.
-pub fn admit(lent: usize, rows: usize, row: usize) -> u32
-    ensures { λ r. ⌜ r ≡ gate lent rows row ⌝ }
+pub fn admit_code(lent: usize, rows: usize, row: usize) -> u32
+    ensures { λ r. ⌜ r ≡ admitCode lent rows row ⌝ }
 {
-    if SIZE < rows {
+    if MAX_SIZE < rows {
         return 19;
     }
     if lent < rows * WORDS {

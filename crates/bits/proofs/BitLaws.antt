@@ -15,7 +15,7 @@ use lib.Seq.{getD-set-same, getD-set-other}
 use lib.ListN.{length, getD, set, length-set}
 use lib.Dec.{eqb}
 use lib.Bits.{bitOr, or-shr, or-step}
-use Rattle.bits.specs.Bits.{bit, at, putBit, zeroed}
+use Rattle.bits.specs.Bits.{bit, bitAt, putBit, clearWords}
 
 -- ---- where a row's words stand
 
@@ -77,8 +77,8 @@ bit-pow k j =
     ap (λ (x : ℕ). eqb (x % 2) 1) (div-eq-of-lt (pow-lt h)) ∙ sym (ne-eqb j k (omega arith)))
 
 -- in row r the bit s is set, and each other bit is as it was
-pub at-put : (w : ℕ) (l : List ℕ) (r s q : ℕ) → r * w + s / 32 < length l → at w (putBit w l r s) r q ≡ (at w l r q || eqb q s)
-unfolding at putBit
+pub at-put : (w : ℕ) (l : List ℕ) (r s q : ℕ) → r * w + s / 32 < length l → bitAt w (putBit w l r s) r q ≡ (bitAt w l r q || eqb q s)
+unfolding bitAt putBit
 at-put w l r s q h = by-cases (ℕ-discrete (q / 32) (s / 32))
     (λ (e : q / 32 ≡ s / 32). rw e
     (ap (λ (x : ℕ). bit x (q % 32)) (getD-set-same l (r * w + s / 32) _ 0 h) ∙ bit-or _ _ (q % 32)
@@ -91,8 +91,8 @@ pub one-shift : (k : ℕ) → k < 32 → 1 * 2 ^ k % 4294967296 ≡ 2 ^ k
 one-shift k h = ap (λ (x : ℕ). x % 4294967296) (one-mul (2 ^ k)) ∙ mod-eq-of-lt (pow-lt h)
 
 -- in another row nothing changes
-pub at-put-other : (w : ℕ) (l : List ℕ) (r s q t : ℕ) → (q ≡ r → ⊥) → s < 32 * w → t < 32 * w → at w (putBit w l r s) q t ≡ at w l q t
-unfolding at putBit
+pub at-put-other : (w : ℕ) (l : List ℕ) (r s q t : ℕ) → (q ≡ r → ⊥) → s < 32 * w → t < 32 * w → bitAt w (putBit w l r s) q t ≡ bitAt w l q t
+unfolding bitAt putBit
 at-put-other w l r s q t ne hs ht =
     ap (λ (x : ℕ). bit x (t % 32))
     (getD-set-other l (r * w + s / 32) (q * w + t / 32) _ 0
@@ -112,48 +112,48 @@ pub zero-bit : (k : ℕ) → bit 0 k ≡ false
 unfolding bit
 zero-bit k = ap (λ (x : ℕ). eqb (x % 2) 1) (zero-div (2 ^ k))
 
-pub zeroed-none : (l : List ℕ) (d : ℕ) → l ≡ zeroed l d 0
-unfolding zeroed
+pub zeroed-none : (l : List ℕ) (d : ℕ) → l ≡ clearWords l d 0
+unfolding clearWords
 zeroed-none l d = refl
 
-pub zeroed-more : (l : List ℕ) (d x : ℕ) → set (zeroed l d x) (d + x) 0 ≡ zeroed l d (x + 1)
-unfolding zeroed
+pub zeroed-more : (l : List ℕ) (d x : ℕ) → set (clearWords l d x) (d + x) 0 ≡ clearWords l d (x + 1)
+unfolding clearWords
 zeroed-more l d x = rw add-one refl
 
-pub length-zeroed : (l : List ℕ) (d x : ℕ) → length (zeroed l d x) ≡ length l
-unfolding zeroed
+pub length-zeroed : (l : List ℕ) (d x : ℕ) → length (clearWords l d x) ≡ length l
+unfolding clearWords
 length-zeroed l d zero = refl
-length-zeroed l d (suc x) = length-set (zeroed l d x) (d + x) 0 ∙ length-zeroed l d x
+length-zeroed l d (suc x) = length-set (clearWords l d x) (d + x) 0 ∙ length-zeroed l d x
 
-pub getD-zeroed-out : (l : List ℕ) (d x p : ℕ) → (p < d) ⊎ (d + x ≤ p) → getD (zeroed l d x) p 0 ≡ getD l p 0
-unfolding zeroed
+pub getD-zeroed-out : (l : List ℕ) (d x p : ℕ) → (p < d) ⊎ (d + x ≤ p) → getD (clearWords l d x) p 0 ≡ getD l p 0
+unfolding clearWords
 getD-zeroed-out l d zero p h = refl
 getD-zeroed-out l d (suc x) p h =
-    getD-set-other (zeroed l d x) (d + x) p 0 0 (⊎-elim (λ a. omega arith) (λ a. omega arith) h)
+    getD-set-other (clearWords l d x) (d + x) p 0 0 (⊎-elim (λ a. omega arith) (λ a. omega arith) h)
     ∙ getD-zeroed-out l d x p (⊎-elim (λ a. inl a) (λ a. inr (omega arith)) h)
 
-getD-zeroed : (l : List ℕ) (d x y : ℕ) → y < x → d + x ≤ length l → getD (zeroed l d x) (d + y) 0 ≡ 0
-unfolding zeroed
+getD-zeroed : (l : List ℕ) (d x y : ℕ) → y < x → d + x ≤ length l → getD (clearWords l d x) (d + y) 0 ≡ 0
+unfolding clearWords
 getD-zeroed l d zero y h k = absurd (omega arith)
 getD-zeroed l d (suc x) y h k =
     by-cases (ℕ-discrete y x)
-    (λ (e : y ≡ x). rw e (getD-set-same (zeroed l d x) (d + x) 0 0 (omega (arith, length-zeroed l d x))))
-    (λ ne. getD-set-other (zeroed l d x) (d + x) (d + y) 0 0 (omega arith) ∙ getD-zeroed l d x y (omega arith) (omega arith))
+    (λ (e : y ≡ x). rw e (getD-set-same (clearWords l d x) (d + x) 0 0 (omega (arith, length-zeroed l d x))))
+    (λ ne. getD-set-other (clearWords l d x) (d + x) (d + y) 0 0 (omega arith) ∙ getD-zeroed l d x y (omega arith) (omega arith))
 
-pub at-emptied : (w : ℕ) (l : List ℕ) (r s : ℕ) → r * w + w ≤ length l → s < 32 * w → at w (zeroed l (r * w) w) r s ≡ false
-unfolding at
+pub at-emptied : (w : ℕ) (l : List ℕ) (r s : ℕ) → r * w + w ≤ length l → s < 32 * w → bitAt w (clearWords l (r * w) w) r s ≡ false
+unfolding bitAt
 at-emptied w l r s h hs = ap (λ (x : ℕ). bit x (s % 32)) (getD-zeroed l (r * w) w (s / 32) (word-lt hs) h) ∙ zero-bit (s % 32)
 
-pub at-emptied-other : (w : ℕ) (l : List ℕ) (r q s : ℕ) → (q ≡ r → ⊥) → s < 32 * w → at w (zeroed l (r * w) w) q s ≡ at w l q s
-unfolding at
+pub at-emptied-other : (w : ℕ) (l : List ℕ) (r q s : ℕ) → (q ≡ r → ⊥) → s < 32 * w → bitAt w (clearWords l (r * w) w) q s ≡ bitAt w l q s
+unfolding bitAt
 at-emptied-other w l r q s ne hs = ap (λ (x : ℕ). bit x (s % 32)) (getD-zeroed-out l (r * w) w (q * w + s / 32) (pos-apart w q r (s / 32) ne (word-lt hs)))
 
 -- the first n rows emptied
-pub at-zeroed : (w n : ℕ) (l : List ℕ) (r s : ℕ) → n * w ≤ length l → r < n → s < 32 * w → at w (zeroed l 0 (n * w)) r s ≡ false
-unfolding at
+pub at-zeroed : (w n : ℕ) (l : List ℕ) (r s : ℕ) → n * w ≤ length l → r < n → s < 32 * w → bitAt w (clearWords l 0 (n * w)) r s ≡ false
+unfolding bitAt
 at-zeroed w n l r s h hr hs =
     let e : 0 + (r * w + s / 32) ≡ r * w + s / 32 = omega arith in
     ap (λ (x : ℕ). bit x (s % 32))
-    (subst (λ (p : ℕ). getD (zeroed l 0 (n * w)) p 0 ≡ 0) e
+    (subst (λ (p : ℕ). getD (clearWords l 0 (n * w)) p 0 ≡ 0) e
     (getD-zeroed l 0 (n * w) (r * w + s / 32) (omega (arith, row-in n w r hr, word-lt hs)) (omega arith)))
     ∙ zero-bit (s % 32)

@@ -8,21 +8,13 @@ use mathlib.Core.Logic.{_⊎_, inl, inr, ⊎-elim}
 use native.Mathlib.Nat.{eq-or-lt-of-le}
 use native.Mathlib.Omega.{arith}
 use lib.Dec.{T, leb, ltb, leb→le, ltb→lt}
-use borrow.Author.Tests.{leb-true, le-leb}
+use borrow.Author.Tests.{leb-true, le-leb, ltb-true, ltb-false}
 use Rattle.element.specs.declared.Form.{Form}
-use Rattle.element.specs.declared.Form.the-variants.{Refused}
-use Rattle.element.specs.Element.{Entry, run, within, lookup}
+use Rattle.element.specs.declared.Form.the-variants.{Refused, Leaf, Named, Variable, Wrap, Modified, Counted, Array, Instance, Callable, Generic}
+use Rattle.element.specs.Element.{Entry, run, allowed, within, lookup}
 
 pub inside : (first last b : ℕ) → first ≤ b → b ≤ last → within first last b ≡ true
 inside first last b l u = simp (le-leb _ _ l, le-leb _ _ u)
-
-pub within-true : (first last b : ℕ) → within first last b ≡ true → (first ≤ b) × (b ≤ last)
-within-true first last b e = go (leb first b) refl (leb b last) refl e
-  where
-    go : (x : Bool) → leb first b ≡ x → (y : Bool) → leb b last ≡ y → (x && y) ≡ true → (first ≤ b) × (b ≤ last)
-    go true e true f h = (leb-true _ _ e, leb-true _ _ f)
-    go true e false f h = let z : _≡_ {A = ℕ} 0 1 = cc in absurd (omega arith)
-    go false e y f h = let z : _≡_ {A = ℕ} 0 1 = cc in absurd (omega arith)
 
 pub outside : (first last b : ℕ) → (first ≤ b → b ≤ last → ⊥) → within first last b ≡ false
 outside first last b out = low (leb first b) refl (leb b last) refl
@@ -71,6 +63,13 @@ same-run (run first last f ∷ es) {lo} {hi} {b} l u t =
 pub above : {n b : ℕ} → n ≤ b → (b ≡ n → ⊥) → suc n ≤ b
 above h ne = ⊎-elim (λ e. absurd (ne (omega arith))) (λ l. l) (eq-or-lt-of-le h)
 
+pub lt-or-le : (b n : ℕ) → (b < n) ⊎ (n ≤ b)
+lt-or-le b n = go (ltb b n) refl
+  where
+    go : (t : Bool) → ltb b n ≡ t → (b < n) ⊎ (n ≤ b)
+    go true e = inl (ltb-true b n e)
+    go false e = inr (ltb-false b n e)
+
 -- a test of forms that all entries pass, and Refused too, is passed by the form of every byte
 abbrev pub allForms : (Form → Bool) → List Entry → Bool
 allForms test [] = true
@@ -85,3 +84,21 @@ lookup-passes test (run first last f ∷ es) b r e =
     go true y p q true k = p
     go true y p q false k = k q
     go false y p q t k = cc
+
+-- the one form that is not allowed
+pub refused-form : (f : Form) → allowed f ≡ false → f ≡ Refused
+refused-form Refused e = refl
+refused-form Leaf e = cc
+refused-form Named e = cc
+refused-form Variable e = cc
+refused-form (Wrap p) e = cc
+refused-form (Modified p) e = cc
+refused-form (Counted p) e = cc
+refused-form Array e = cc
+refused-form Instance e = cc
+refused-form (Callable p) e = cc
+refused-form (Generic p) e = cc
+
+-- what fails a test is nothing that passes it
+pub unmet : {A X : Type 0} (test : A → Bool) {x y : A} → x ≡ y → test y ≡ false → test x ≡ true → X
+unmet test e f t = let z : _≡_ {A = ℕ} 0 1 = cc in absurd (omega arith)

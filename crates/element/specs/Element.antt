@@ -6,7 +6,7 @@ use lib.Dec.{leb}
 use Rattle.element.specs.declared.Place.{Place}
 use Rattle.element.specs.declared.Place.the-variants as Place
 use Rattle.element.specs.declared.Form.{Form}
-use Rattle.element.specs.declared.Form.the-variants.{Refused, Leaf, Named, Variable, Wrap, Modified, Counted, Array, Instance, FnPtr, Callable, Generic}
+use Rattle.element.specs.declared.Form.the-variants.{Refused, Leaf, Named, Variable, Wrap, Modified, Counted, Array, Instance, Callable, Generic}
 
 abbrev pub allowed : Form → Bool
 allowed Refused = false
@@ -18,9 +18,8 @@ allowed (Modified p) = true
 allowed (Counted p) = true
 allowed Array = true
 allowed Instance = true
-allowed FnPtr = true
-allowed Callable = true
-allowed Generic = true
+allowed (Callable p) = true
+allowed (Generic p) = true
 
 -- the bytes from the first to the last, and their form
 pub data Entry : Type 0 where
@@ -51,7 +50,7 @@ bare =
     ∷ one 0x15 Instance
     ∷ one 0x13 Variable
     ∷ one 0x1E Variable
-    ∷ one 0x1B FnPtr
+    ∷ one 0x1B (Wrap Place.FnPtrMethod)
     ∷ []
 
 -- "Mod: 1F or 20, then a token of any of the three tags": modifiers before what stands in the place p
@@ -68,10 +67,17 @@ byRef = one 0x10 (Wrap Place.Type)
 abbrev pub typedByRef : Entry
 typedByRef = one 0x16 Leaf
 
--- "Method: a lead byte 00, 05, 20, 25, 60 or 65"
+-- "Method: a lead byte .., then ParamCount, RetType, that many Params"
+abbrev pub lead : ℕ → Entry
+lead b = one b (Callable Place.Param)
+
+-- the same with a generic count
+abbrev pub genericLead : ℕ → Entry
+genericLead b = one b (Generic Place.Param)
+
+-- "a lead byte 00, 05, 20, 25, 60 or 65"
 unfoldable pub leads : List Entry
-leads =
-    one 0x00 Callable ∷ one 0x05 Callable ∷ one 0x20 Callable ∷ one 0x25 Callable ∷ one 0x60 Callable ∷ one 0x65 Callable ∷ []
+leads = lead 0x00 ∷ lead 0x05 ∷ lead 0x20 ∷ lead 0x25 ∷ lead 0x60 ∷ lead 0x65 ∷ []
 
 unfoldable pub entries : Place → List Entry
 -- "Type: Mods, then Bare"
@@ -95,9 +101,19 @@ entries Place.FieldSig = one 0x06 (Wrap Place.Type) ∷ []
 -- "LocalVarSig: 07, a count of at least 1, that many Locals"
 entries Place.LocalVarSig = one 0x07 (Counted Place.Local) ∷ []
 -- "PropertySig: 08 or 28, ParamCount, RetType, Params"
-entries Place.PropertySig = one 0x08 Callable ∷ one 0x28 Callable ∷ []
+entries Place.PropertySig = lead 0x08 ∷ lead 0x28 ∷ []
 -- "As kind 4 also 10, 30 or 70, followed by a generic count of at least 1 before ParamCount"
-entries Place.MethodDefSig = one 0x10 Generic ∷ one 0x30 Generic ∷ one 0x70 Generic ∷ leads
+entries Place.MethodDefSig = genericLead 0x10 ∷ genericLead 0x30 ∷ genericLead 0x70 ∷ leads
 
 unfoldable pub formOf : Place → ℕ → Form
 formOf p b = lookup (entries p) b
+
+-- every place, once
+unfoldable pub places : List Place
+places =
+    Place.Type ∷ Place.Pointee ∷ Place.Param ∷ Place.RetType ∷ Place.Local ∷ Place.Pinned ∷ Place.TypeSpec ∷ Place.ModifiedSpec
+    ∷ Place.FnPtrMethod ∷ Place.FieldSig ∷ Place.LocalVarSig ∷ Place.PropertySig ∷ Place.MethodDefSig ∷ []
+
+-- a place of a type: one that allows modifiers. All of them have Bare's bytes but for TypeSpec, and what only some have is looked up in the place.
+abbrev pub isTypePlace : Place → Bool
+isTypePlace p = allowed (formOf p 0x1F)

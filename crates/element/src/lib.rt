@@ -2,6 +2,8 @@
 ghost use mathlib.Core.Path.{_≡_};
 ghost use Rattle.element.specs.Element.{allowed, bare, leads, lookup, formOf};
 
+pub mod types;
+
 // Where in the grammar a node stands.
 pub enum Place {
     Type,
@@ -45,12 +47,10 @@ pub enum Form {
     Array,
     // 11 or 12, a TypeDef or TypeRef token, a count of at least 1, then that many types
     Instance,
-    // a method
-    FnPtr,
-    // ParamCount, a return type, then that many parameters
-    Callable,
+    // ParamCount, a return type, then that many parameters, in that place
+    Callable(Place),
     // a count of at least 1, then what follows as in Callable
-    Generic,
+    Generic(Place),
 }
 
 // Bare: a type without modifiers.
@@ -65,22 +65,22 @@ fn bare_form(b: u8) -> Form
         0x1D => Form::Wrap(Place::Type),
         0x14 => Form::Array,
         0x15 => Form::Instance,
-        0x1B => Form::FnPtr,
+        0x1B => Form::Wrap(Place::FnPtrMethod),
         _ => Form::Refused,
     }
 }
 
 // The lead bytes of a method under FNPTR.
-pub fn lead_form(b: u8) -> Form
+fn lead_form(b: u8) -> Form
     ensures { λ r. ⌜ r ≡ lookup leads b ⌝ }
 {
     match b {
-        0x00 => Form::Callable,
-        0x05 => Form::Callable,
-        0x20 => Form::Callable,
-        0x25 => Form::Callable,
-        0x60 => Form::Callable,
-        0x65 => Form::Callable,
+        0x00 => Form::Callable(Place::Param),
+        0x05 => Form::Callable(Place::Param),
+        0x20 => Form::Callable(Place::Param),
+        0x25 => Form::Callable(Place::Param),
+        0x60 => Form::Callable(Place::Param),
+        0x65 => Form::Callable(Place::Param),
         _ => Form::Refused,
     }
 }
@@ -149,7 +149,7 @@ fn pinned_form(b: u8) -> Form
     }
 }
 
-pub fn type_spec_form(b: u8) -> Form
+fn type_spec_form(b: u8) -> Form
     ensures { λ r. ⌜ r ≡ formOf Place.TypeSpec b ⌝ }
 {
     match b {
@@ -172,7 +172,7 @@ fn modified_spec_form(b: u8) -> Form
     }
 }
 
-pub fn field_sig_form(b: u8) -> Form
+fn field_sig_form(b: u8) -> Form
     ensures { λ r. ⌜ r ≡ formOf Place.FieldSig b ⌝ }
 {
     match b {
@@ -181,7 +181,7 @@ pub fn field_sig_form(b: u8) -> Form
     }
 }
 
-pub fn local_var_sig_form(b: u8) -> Form
+fn local_var_sig_form(b: u8) -> Form
     ensures { λ r. ⌜ r ≡ formOf Place.LocalVarSig b ⌝ }
 {
     match b {
@@ -190,23 +190,23 @@ pub fn local_var_sig_form(b: u8) -> Form
     }
 }
 
-pub fn property_sig_form(b: u8) -> Form
+fn property_sig_form(b: u8) -> Form
     ensures { λ r. ⌜ r ≡ formOf Place.PropertySig b ⌝ }
 {
     match b {
-        0x08 => Form::Callable,
-        0x28 => Form::Callable,
+        0x08 => Form::Callable(Place::Param),
+        0x28 => Form::Callable(Place::Param),
         _ => Form::Refused,
     }
 }
 
-pub fn method_def_sig_form(b: u8) -> Form
+fn method_def_sig_form(b: u8) -> Form
     ensures { λ r. ⌜ r ≡ formOf Place.MethodDefSig b ⌝ }
 {
     match b {
-        0x10 => Form::Generic,
-        0x30 => Form::Generic,
-        0x70 => Form::Generic,
+        0x10 => Form::Generic(Place::Param),
+        0x30 => Form::Generic(Place::Param),
+        0x70 => Form::Generic(Place::Param),
         _ => lead_form(b),
     }
 }
@@ -232,10 +232,11 @@ pub fn form_of(place: Place, b: u8) -> Form
     }
 }
 
-pub fn is_allowed(form: Form) -> bool
-    ensures { λ r. ⌜ r ≡ allowed form ⌝ }
+// Whether a place allows the code byte `b`.
+pub fn allows(place: Place, b: u8) -> bool
+    ensures { λ r. ⌜ r ≡ allowed (formOf place b) ⌝ }
 {
-    match form {
+    match form_of(place, b) {
         Form::Refused => false,
         Form::Leaf => true,
         Form::Named => true,
@@ -245,16 +246,7 @@ pub fn is_allowed(form: Form) -> bool
         Form::Counted(_) => true,
         Form::Array => true,
         Form::Instance => true,
-        Form::FnPtr => true,
-        Form::Callable => true,
-        Form::Generic => true,
+        Form::Callable(_) => true,
+        Form::Generic(_) => true,
     }
-}
-
-// Whether a place allows the code byte `b`.
-pub fn allows(place: Place, b: u8) -> bool
-    ensures { λ r. ⌜ r ≡ allowed (formOf place b) ⌝ }
-{
-    let form = form_of(place, b);
-    is_allowed(form)
 }

@@ -4,15 +4,15 @@ use Prim.Native.Nat.{ℕ, zero, suc, _+_, _-_, _≤_, _<_}
 use native.Mathlib.Omega.{arith}
 use mathlib.Core.Path.{_≡_, refl, sym, ap, subst, _∙_}
 use mathlib.Core.Bool.{Bool, true, false, cond}
-use mathlib.Core.List.{List, [], _∷_, _++_, append-assoc, append-nil}
+use mathlib.Core.List.{List, [], _∷_, _++_, append-nil}
 use lib.ListN.{length, set, length-append}
 use lib.Seq.{sets, length-sets}
 use lib.Dec.{leb}
 use borrow.Author.Tests.{leb-true, leb-false, le-leb, lt-leb}
 use Rattle.number.specs.Number.{encode, putAt}
-use Rattle.number.proofs.Encoding.{encode-1, put-fits}
-use Rattle.grammar.specs.Emit.{Emitted, torn, wrote, andThen, spell, times, emit}
-use Rattle.emission.specs.Emission.{spelled, Spelt, put, cut, followed, resultOf, leavesOf, Emits, Parted}
+use Rattle.number.proofs.Encodes.{encode-1, put-fits}
+use Rattle.grammar.specs.Emit.{Emitted, torn, wrote, andThen, times, emit}
+use Rattle.emission.specs.Emission.{Spelt, put, cut, followed, resultOf, leavesOf, Emits, Parted}
 use Rattle.emission.specs.declared.Emit.{Emit}
 use Rattle.emission.specs.declared.Emit.the-variants.{Next, Stop}
 use Rattle.emission.specs.declared.Part.{Part}
@@ -114,79 +114,59 @@ pub emits-past : (q : Emitted) (at : ℕ) (o : List ℕ) → length o < at → E
 emits-past torn at o h = emits-torn at o
 emits-past (wrote bs n) at o h = emits-over bs n at o o (omega arith) refl
 
--- ---- numbers in a row
-
-pub spell-rest : (vs rest : List ℕ) → spell vs rest ≡ spell vs [] ++ rest
-unfolding spell
-spell-rest [] rest = refl
-spell-rest (v ∷ vs) rest = ap (λ (l : List ℕ). encode v ++ l) (spell-rest vs rest) ∙ sym (append-assoc (encode v) (spell vs []) rest)
-
-spell-append : (vs ws : List ℕ) → spell (vs ++ ws) [] ≡ spell vs [] ++ spell ws []
-unfolding spell
-spell-append [] ws = refl
-spell-append (v ∷ vs) ws = ap (λ (l : List ℕ). encode v ++ l) (spell-append vs ws) ∙ sym (append-assoc (encode v) (spell vs []) (spell ws []))
+-- ---- bytes in a row
 
 module _ (v at : ℕ) (o : List ℕ) where
-  one : spell (v ∷ []) [] ≡ encode v
-  unfolding spell
-  one = append-nil (encode v)
+  pub number-cut : (r : ℕ) → length o < at + length (encode v) → r ≡ length o + 1 → Spelt (encode v) at r o o
+  number-cut r h e = cut h e refl
 
-  pub number-cut : (r : ℕ) → length o < at + length (encode v) → r ≡ length o + 1 → Spelt (v ∷ []) at r o o
-  number-cut r h e = cut (rw one h) e refl
-
-  pub number-put : (r : ℕ) (o₁ : List ℕ) → at + length (encode v) ≤ length o → r ≡ at + length (encode v) → o₁ ≡ putAt o at (encode v) → Spelt (v ∷ []) at r o o₁
-  number-put r o₁ h e p = put (rw one h) (rw one e) (rw one (p ∙ sym (put-fits o at (encode v) h)))
+  pub number-put : (r : ℕ) (o₁ : List ℕ) → at + length (encode v) ≤ length o → r ≡ at + length (encode v) → o₁ ≡ putAt o at (encode v) → Spelt (encode v) at r o o₁
+  number-put r o₁ h e p = put h e (p ∙ sym (put-fits o at (encode v) h))
 
   -- a number of one byte
   module _ (s : v < 0x80) where
-    single : spell (v ∷ []) [] ≡ v ∷ []
-    single = one ∙ encode-1 v s
+    pub byte-put : (r : ℕ) (o₁ : List ℕ) → at < length o → r ≡ at + 1 → o₁ ≡ set o at v → Spelt (encode v) at r o o₁
+    byte-put r o₁ h e p = rw (encode-1 v s) (put (omega arith) e p)
 
-    pub byte-put : (r : ℕ) (o₁ : List ℕ) → at < length o → r ≡ at + 1 → o₁ ≡ set o at v → Spelt (v ∷ []) at r o o₁
-    byte-put r o₁ h e p = put (rw single (omega arith)) (rw single e) (rw single p)
+    pub byte-cut : (r : ℕ) → length o ≤ at → r ≡ length o + 1 → Spelt (encode v) at r o o
+    byte-cut r h e = rw (encode-1 v s) (cut (omega arith) e refl)
 
-    pub byte-cut : (r : ℕ) → length o ≤ at → r ≡ length o + 1 → Spelt (v ∷ []) at r o o
-    byte-cut r h e = cut (rw single (omega arith)) e refl
-
-module _ {vs : List ℕ} {at e : ℕ} {o o₁ : List ℕ} where
-  spelt-kept : Spelt vs at e o o₁ → length o₁ ≡ length o
-  spelt-kept (put h i j) = ap length j ∙ length-sets o at (spell vs [])
+module _ {bs : List ℕ} {at e : ℕ} {o o₁ : List ℕ} where
+  spelt-kept : Spelt bs at e o o₁ → length o₁ ≡ length o
+  spelt-kept (put h i j) = ap length j ∙ length-sets o at bs
   spelt-kept (cut h i j) = j
 
-  pub spelt-is : {ws : List ℕ} → vs ≡ ws → Spelt vs at e o o₁ → Spelt ws at e o o₁
+  pub spelt-is : {cs : List ℕ} → bs ≡ cs → Spelt bs at e o o₁ → Spelt cs at e o o₁
   spelt-is x y = subst (λ (l : List ℕ). Spelt l at e o o₁) x y
 
-  pub spelt-more : {ws : List ℕ} {r : ℕ} {o₂ : List ℕ} → Spelt vs at e o o₁ → Spelt ws e r o₁ o₂ → Spelt (vs ++ ws) at r o o₂
-  spelt-more {ws} {r} {o₂} x y = go x y
+  pub spelt-more : {cs : List ℕ} {r : ℕ} {o₂ : List ℕ} → Spelt bs at e o o₁ → Spelt cs e r o₁ o₂ → Spelt (bs ++ cs) at r o o₂
+  spelt-more {cs} {r} {o₂} x y = go x y
     where
-      long : length (spell (vs ++ ws) []) ≡ length (spell vs []) + length (spell ws [])
-      long = ap length (spell-append vs ws) ∙ length-append (spell vs []) (spell ws [])
+      long : length (bs ++ cs) ≡ length bs + length cs
+      long = length-append bs cs
 
-      go : Spelt vs at e o o₁ → Spelt ws e r o₁ o₂ → Spelt (vs ++ ws) at r o o₂
-      go (put h i j) (put f g k) =
-          put (omega (arith, long, spelt-kept x)) (omega (arith, long))
-          (k ∙ rw (i, j) (sets-append (spell vs []) (spell ws []) o at) ∙ sym (ap (sets o at) (spell-append vs ws)))
+      go : Spelt bs at e o o₁ → Spelt cs e r o₁ o₂ → Spelt (bs ++ cs) at r o o₂
+      go (put h i j) (put f g k) = put (omega (arith, long, spelt-kept x)) (omega (arith, long)) (k ∙ rw (i, j) (sets-append bs cs o at))
       go (put h i j) (cut f g k) = cut (omega (arith, long, spelt-kept x)) (g ∙ ap (λ (l : ℕ). l + 1) (spelt-kept x)) (k ∙ spelt-kept x)
       go (cut h i j) (put f g k) = absurd (omega arith)
       go (cut h i j) (cut f g k) = cut (omega (arith, long)) (g ∙ ap (λ (l : ℕ). l + 1) j) (k ∙ j)
 
-  -- numbers, and then what was emitted from the offset that they gave
-  pub spelt-then : (k : ℕ → Emitted) (n : ℕ) {r : Emit} {o₂ : List ℕ} → Spelt vs at e o o₁ → Emits (k n) e r o₁ o₂ → Emits (followed (spelled vs n) k) at r o o₂
+  -- bytes, and then what was emitted from the offset that they gave
+  pub spelt-then : (k : ℕ → Emitted) (n : ℕ) {r : Emit} {o₂ : List ℕ} → Spelt bs at e o o₁ → Emits (k n) e r o₁ o₂ → Emits (followed (wrote bs n) k) at r o o₂
   unfolding followed resultOf leavesOf
   spelt-then k n {r} {o₂} x y = go x
     where
-      over-end : (q : Emitted) → length o < at + length (spell vs []) → e ≡ length o + 1 → length o₁ ≡ length o → Emits q e r o₁ o₂
-          → Emits (andThen q (λ cs m. wrote (spell vs [] ++ cs) m)) at r o o₂
+      over-end : (q : Emitted) → length o < at + length bs → e ≡ length o + 1 → length o₁ ≡ length o → Emits q e r o₁ o₂
+          → Emits (andThen q (λ cs m. wrote (bs ++ cs) m)) at r o o₂
       over-end torn h i j z = record { result = z .result; left = tt; kept = z .kept ∙ j }
       over-end (wrote cs m) h i j z = by-fit (fit cs m e (length o₁) r (z .result))
         where
-          by-fit : Fit cs e (length o₁) r (Next (e + length cs) m) → Emits (wrote (spell vs [] ++ cs) m) at r o o₂
+          by-fit : Fit cs e (length o₁) r (Next (e + length cs) m) → Emits (wrote (bs ++ cs) m) at r o o₂
           by-fit (fits g w) = absurd (omega arith)
-          by-fit (over g w) =
-              found _ at Stop r o o₂ (sym w) (emits-over (spell vs [] ++ cs) m at o o₂ (omega (arith, length-append (spell vs []) cs)) (z .kept ∙ j))
+          by-fit (over g w) = found _ at Stop r o o₂ (sym w) (emits-over (bs ++ cs) m at o o₂ (omega (arith, length-append bs cs)) (z .kept ∙ j))
 
-      go : Spelt vs at e o o₁ → Emits (followed (spelled vs n) k) at r o o₂
-      go (put h i j) = emits-after (k n) (spell vs []) at r o o₁ o₂ (spelt-kept x) j (rw i at y)
+      go : Spelt bs at e o o₁ → Emits (followed (wrote bs n) k) at r o o₂
+      go (put h i j) = emits-after (k n) bs at r o o₁ o₂ (spelt-kept x) j (rw i at y)
       go (cut h i j) = over-end (k n) h i j y
 
 -- an emission that went on ended inside the buffer

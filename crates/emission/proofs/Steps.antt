@@ -8,27 +8,29 @@ use mathlib.Core.List.{List, [], _∷_, _++_, append-assoc, append-nil}
 use lib.ListN.{length}
 use lib.Dec.{leb, eqb}
 use borrow.Author.Tests.{leb-false, eqb-true, eqb-false, le-leb, lt-leb, eq-eqb, ne-eqb}
+use Rattle.number.specs.Number.{encode}
 use Rattle.grammar.specs.Table.{recordAt}
-use Rattle.grammar.specs.Emit.{Layout, plain, array, callable, layouts, layoutIn, layoutOf, lowsOf, partsOf, Emitted, torn, wrote, andThen, spell, times, parts, emit}
+use Rattle.grammar.specs.Emit.{Layout, plain, array, callable, layouts, layoutIn, layoutOf, lowsOf, paramCount, partsOf, Emitted, torn, wrote, andThen, times, parts, emit}
 use Rattle.grammar.specs.declared.Node.{Node}
-use Rattle.emission.specs.Emission.{frontOf, spelled, Spelt, followed, resultOf, Emits}
+use Rattle.emission.specs.Emission.{frontOf, Spelt, followed, resultOf, Emits}
 use Rattle.emission.specs.declared.Emit.{Emit}
 use Rattle.emission.specs.declared.Emit.the-variants.{Next, Stop}
-use Rattle.emission.proofs.Laws.{clash, Fit, fits, over, fit, emits-torn, emits-stop, emits-next, emits-is, found, spell-rest, spelt-is, spelt-then}
+use Rattle.emission.proofs.Laws.{clash, Fit, fits, over, fit, emits-torn, emits-stop, emits-next, emits-is, found, spelt-is, spelt-then}
 
 -- ---- call_to and front_to
 
-pub call-plain : (r : Node) (k : ℕ) → r .a ≡ 0 → k ≡ r .children - 1 → r .b ∷ k ∷ [] ≡ frontOf callable r
-unfolding frontOf
-call-plain r k h e = rw (eq-eqb (r .a) 0 h, e)
+module _ (t : List ℕ) (n : ℕ) (r : Node) (k : ℕ) (e : k ≡ paramCount t n) where
+  pub call-plain : r .a ≡ 0 → encode (r .b) ++ encode k ≡ frontOf callable t n r
+  unfolding partsOf
+  call-plain h = rw (eq-eqb (r .a) 0 h, e)
 
-pub call-generic : (r : Node) (k : ℕ) → (r .a ≡ 0 → ⊥) → k ≡ r .children - 1 → r .b ∷ r .a ∷ k ∷ [] ≡ frontOf callable r
-unfolding frontOf
-call-generic r k h e = rw (ne-eqb (r .a) 0 h, e)
+  pub call-generic : (r .a ≡ 0 → ⊥) → encode (r .b) ++ (encode (r .a) ++ encode k) ≡ frontOf callable t n r
+  unfolding partsOf
+  call-generic h = rw (ne-eqb (r .a) 0 h, e)
 
-module _ (r : Node) where
+module _ (t : List ℕ) (n : ℕ) (r : Node) where
   abbrev Front : List ℕ → ℕ → Type 0
-  Front vs k = vs ≡ frontOf (layoutOf k) r
+  Front bs k = bs ≡ frontOf (layoutOf k) t n r
 
   either : (vs : List ℕ) (j k : ℕ) → Front vs j → ((k ≡ j → ⊥) → Front vs k) → Front vs k
   either vs j k x f = go (eqb k j) refl
@@ -42,14 +44,14 @@ module _ (r : Node) where
   front-three vs j x y z h i =
       either vs j (r .kind) x (λ a. either vs (j + 1) (r .kind) y (λ b. let e : r .kind ≡ j + 2 = omega arith in subst (Front vs) (sym e) z))
 
-  pub front-bound : 0x100 ≤ r .kind → r .kind < 0x106 → (r .kind ≡ 0x100 → ⊥) → (r .kind ≡ 0x101 → ⊥) → (r .kind ≡ 0x102 → ⊥) → (r .kind ≡ 0x103 → ⊥) → Front (r .a ∷ []) (r .kind)
-  unfolding frontOf layoutOf
-  front-bound h i a b c d = either (r .a ∷ []) 0x104 (r .kind) refl (λ f. let e : r .kind ≡ 0x105 = omega arith in rw e)
+  pub front-bound : 0x100 ≤ r .kind → r .kind < 0x106 → (r .kind ≡ 0x100 → ⊥) → (r .kind ≡ 0x101 → ⊥) → (r .kind ≡ 0x102 → ⊥) → (r .kind ≡ 0x103 → ⊥) → Front (encode (r .a)) (r .kind)
+  unfolding partsOf layoutOf
+  front-bound h i a b c d = either (encode (r .a)) 0x104 (r .kind) refl (λ f. let e : r .kind ≡ 0x105 = omega arith in rw e)
 
   -- a kind that has no layout of its own, or is an ARRAY's
   pub front-plain : (r .kind ≡ 0x15 → ⊥) → (0x11 ≤ r .kind → r .kind < 0x14 → ⊥) × (0x1E ≤ r .kind → r .kind < 0x21 → ⊥) × (0x100 ≤ r .kind → r .kind < 0x106 → ⊥)
-      → Front (r .kind ∷ []) (r .kind)
-  unfolding frontOf layoutOf
+      → Front (encode (r .kind)) (r .kind)
+  unfolding partsOf layoutOf
   front-plain a (f, g, h) =
       rw (
         ne-eqb (r .kind) 0x11 (λ e. f (omega arith) (omega arith)),
@@ -68,46 +70,58 @@ module _ (r : Node) where
       )
       (go (eqb (r .kind) 0x14))
     where
-      go : (b : Bool) → r .kind ∷ [] ≡ frontOf (cond b array plain) r
+      go : (b : Bool) → encode (r .kind) ≡ frontOf (cond b array plain) t n r
       go true = refl
       go false = refl
 
-  -- by the kind that was found
-  pub spelt-front : (k : ℕ) {vs : List ℕ} {at e : ℕ} {o o₁ : List ℕ} → r .kind ≡ k → Front vs k → Spelt vs at e o o₁ → Spelt (frontOf (layoutOf (r .kind)) r) at e o o₁
-  spelt-front k h x y = spelt-is (x ∙ ap (λ (i : ℕ). frontOf (layoutOf i) r) (sym h)) y
+  pub front-instance : Front ((encode (r .kind) ++ encode (r .b)) ++ (encode (r .a) ++ encode (r .children))) 0x15
+  unfolding partsOf layoutOf
+  front-instance = append-assoc (encode (r .kind)) (encode (r .b)) (encode (r .a) ++ encode (r .children))
 
--- ---- parts: numbers, then subtrees
+  pub front-field : Front (encode 0x06) 0x101
+  unfolding partsOf layoutOf encode
+  front-field = refl
+
+  pub front-locals : Front (encode 0x07 ++ encode (r .children)) 0x102
+  unfolding partsOf layoutOf encode
+  front-locals = refl
+
+  -- by the kind that was found
+  pub spelt-front : (k : ℕ) {vs : List ℕ} {at e : ℕ} {o o₁ : List ℕ} → r .kind ≡ k → Front vs k → Spelt vs at e o o₁ → Spelt (frontOf (layoutOf (r .kind)) t n r) at e o o₁
+  spelt-front k h x y = spelt-is (x ∙ ap (λ (i : ℕ). frontOf (layoutOf i) t n r) (sym h)) y
+
+-- ---- parts: bytes, then subtrees
 
 module _ (item : ℕ → Emitted) (vs : List ℕ) (k n : ℕ) where
   one-part : Emitted
-  one-part = followed (spelled vs n) (times item k)
+  one-part = followed (wrote vs n) (times item k)
 
   parts-one : parts item ((vs, k) ∷ []) n ≡ one-part
   unfolding parts followed one-part
   parts-one = go (times item k n)
     where
-      go : (q : Emitted) → andThen q (λ bs n₁. wrote (spell vs (bs ++ [])) n₁) ≡ andThen q (λ cs m. wrote (spell vs [] ++ cs) m)
+      go : (q : Emitted) → andThen q (λ bs n₁. wrote (vs ++ (bs ++ [])) n₁) ≡ andThen q (λ cs m. wrote (vs ++ cs) m)
       go torn = refl
-      go (wrote bs m) = ap (λ (l : List ℕ). wrote l m) (spell-rest vs (bs ++ []) ∙ ap (λ (l : List ℕ). spell vs [] ++ l) (append-nil bs))
+      go (wrote bs m) = ap (λ (l : List ℕ). wrote (vs ++ l) m) (append-nil bs)
 
   parts-more : (ps : List (List ℕ × ℕ)) → parts item ((vs, k) ∷ ps) n ≡ followed one-part (parts item ps)
   unfolding parts followed one-part
   parts-more ps = go (times item k n)
     where
-      last : (bs : List ℕ) (q : Emitted) → andThen q (λ cs m. wrote (spell vs (bs ++ cs)) m) ≡ andThen q (λ cs m. wrote ((spell vs [] ++ bs) ++ cs) m)
+      last : (bs : List ℕ) (q : Emitted) → andThen q (λ cs m. wrote (vs ++ (bs ++ cs)) m) ≡ andThen q (λ cs m. wrote ((vs ++ bs) ++ cs) m)
       last bs torn = refl
-      last bs (wrote cs m) = ap (λ (l : List ℕ). wrote l m) (spell-rest vs (bs ++ cs) ∙ sym (append-assoc (spell vs []) bs cs))
+      last bs (wrote cs m) = ap (λ (l : List ℕ). wrote l m) (sym (append-assoc vs bs cs))
 
       go : (q : Emitted)
-          → andThen q (λ bs n₁. andThen (parts item ps n₁) (λ cs n₂. wrote (spell vs (bs ++ cs)) n₂))
-          ≡ followed (andThen q (λ cs m. wrote (spell vs [] ++ cs) m)) (parts item ps)
+          → andThen q (λ bs n₁. andThen (parts item ps n₁) (λ cs n₂. wrote (vs ++ (bs ++ cs)) n₂))
+          ≡ followed (andThen q (λ cs m. wrote (vs ++ cs) m)) (parts item ps)
       go torn = refl
       go (wrote bs m) = last bs (parts item ps m)
 
--- ---- emit_at and its cycle
+-- ---- part_at and its cycle
 
 OnePart : Layout → Type 0
-OnePart l = (r : Node) → partsOf l r ≡ (frontOf l r, r .children) ∷ []
+OnePart l = (t : List ℕ) (n : ℕ) (r : Node) → partsOf l t n r ≡ (frontOf l t n r, r .children) ∷ []
 
 -- each layout but an ARRAY's
 OneParts : List (ℕ × Layout) → Type 0
@@ -115,12 +129,12 @@ OneParts [] = Unit {0}
 OneParts (l ∷ ls) = ((l .0 ≡ 0x14 → ⊥) → OnePart (l .1)) × OneParts ls
 
 layouts-one : OneParts layouts
-unfolding partsOf frontOf OnePart OneParts
-layouts-one = (λ h r. refl, (λ h r. refl, (λ h r. refl, (λ h r. refl, (λ h r. refl, (λ h r. refl, (λ h. absurd (h refl), (λ h r. refl, (λ h r. refl, (λ h r. refl, (λ h r. refl, (λ h r. refl, (λ h r. refl, (λ h r. refl, tt))))))))))))))
+unfolding partsOf OnePart OneParts
+layouts-one = (λ h t n r. refl, (λ h t n r. refl, (λ h t n r. refl, (λ h t n r. refl, (λ h t n r. refl, (λ h t n r. refl, (λ h. absurd (h refl), (λ h t n r. refl, (λ h t n r. refl, (λ h t n r. refl, (λ h t n r. refl, (λ h t n r. refl, (λ h t n r. refl, (λ h t n r. refl, tt))))))))))))))
 
 one-in : (ls : List (ℕ × Layout)) (k : ℕ) → (k ≡ 0x14 → ⊥) → OneParts ls → OnePart (layoutIn ls k)
-unfolding partsOf frontOf OnePart OneParts
-one-in [] k h q = λ r. refl
+unfolding partsOf OnePart OneParts
+one-in [] k h q = λ t n r. refl
 one-in (l ∷ ls) k h q = go (eqb k (l .0)) refl (one-in ls k h (q .1))
   where
     go : (b : Bool) → eqb k (l .0) ≡ b → OnePart (layoutIn ls k) → OnePart (cond b (l .1) (layoutIn ls k))
@@ -132,11 +146,11 @@ module _ (d : ℕ) (t : List ℕ) (n at : ℕ) where
   unfolding emit
   emit-deep o z = emits-is (emit d t n) torn at Stop o o (ap (λ (i : ℕ). emit i t n) z) (emits-torn at o)
 
-  body : (d ≡ 0 → ⊥) → emit d t n ≡ cond (leb (length t / 6) n) torn (parts (emit (d - 1) t) (partsOf (layoutOf (recordAt t n .kind)) (recordAt t n)) (n + 1))
+  body : (d ≡ 0 → ⊥) → emit d t n ≡ cond (leb (length t / 6) n) torn (parts (emit (d - 1) t) (partsOf (layoutOf (recordAt t n .kind)) t n (recordAt t n)) (n + 1))
   unfolding emit
   body z = go d z
     where
-      go : (i : ℕ) → (i ≡ 0 → ⊥) → emit i t n ≡ cond (leb (length t / 6) n) torn (parts (emit (i - 1) t) (partsOf (layoutOf (recordAt t n .kind)) (recordAt t n)) (n + 1))
+      go : (i : ℕ) → (i ≡ 0 → ⊥) → emit i t n ≡ cond (leb (length t / 6) n) torn (parts (emit (i - 1) t) (partsOf (layoutOf (recordAt t n .kind)) t n (recordAt t n)) (n + 1))
       go zero h = absurd (h refl)
       go (suc i) h = let x : suc i - 1 ≡ i = omega arith in rw x refl
 
@@ -144,22 +158,22 @@ module _ (d : ℕ) (t : List ℕ) (n at : ℕ) where
   emit-past o z h = let i : length t / 6 ≤ n = omega arith in emits-is (emit d t n) torn at Stop o o (body z ∙ rw (le-leb _ _ i)) (emits-torn at o)
 
   module _ (z : d ≡ 0 → ⊥) (h : 6 * n + 6 ≤ length t) (node : Node) (e : node ≡ recordAt t n) (r : Emit) (o o₁ : List ℕ) where
-    inside : emit d t n ≡ parts (emit (d - 1) t) (partsOf (layoutOf (node .kind)) node) (n + 1)
+    inside : emit d t n ≡ parts (emit (d - 1) t) (partsOf (layoutOf (node .kind)) t n node) (n + 1)
     inside = let i : n < length t / 6 = omega arith in body z ∙ rw (lt-leb _ _ i, e)
 
-    pub emit-array : node .kind ≡ 0x14 → Emits (parts (emit (d - 1) t) (partsOf array node) (n + 1)) at r o o₁ → Emits (emit d t n) at r o o₁
+    pub emit-array : node .kind ≡ 0x14 → Emits (parts (emit (d - 1) t) (partsOf array t n node) (n + 1)) at r o o₁ → Emits (emit d t n) at r o o₁
     unfolding layoutOf
-    emit-array k x = emits-is _ _ at r o o₁ (inside ∙ ap (λ (i : ℕ). parts (emit (d - 1) t) (partsOf (layoutOf i) node) (n + 1)) k) x
+    emit-array k x = emits-is _ _ at r o o₁ (inside ∙ ap (λ (i : ℕ). parts (emit (d - 1) t) (partsOf (layoutOf i) t n node) (n + 1)) k) x
 
-    -- f: the offset after the numbers, s: the buffer with them
-    pub emit-part : (f : ℕ) (s : List ℕ) → (node .kind ≡ 0x14 → ⊥) → Spelt (frontOf (layoutOf (node .kind)) node) at f o s
+    -- f: the offset after the bytes, s: the buffer with them
+    pub emit-part : (f : ℕ) (s : List ℕ) → (node .kind ≡ 0x14 → ⊥) → Spelt (frontOf (layoutOf (node .kind)) t n node) at f o s
         → Emits (times (emit (d - 1) t) (node .children) (n + 1)) f r s o₁ → Emits (emit d t n) at r o o₁
     unfolding layoutOf one-part OnePart
     emit-part f s k x y =
         emits-is _ _ at r o o₁
         (inside
-        ∙ ap (λ (ps : List (List ℕ × ℕ)). parts (emit (d - 1) t) ps (n + 1)) (one-in layouts (node .kind) k layouts-one node)
-        ∙ parts-one (emit (d - 1) t) (frontOf (layoutOf (node .kind)) node) (node .children) (n + 1))
+        ∙ ap (λ (ps : List (List ℕ × ℕ)). parts (emit (d - 1) t) ps (n + 1)) (one-in layouts (node .kind) k layouts-one t n node)
+        ∙ parts-one (emit (d - 1) t) (frontOf (layoutOf (node .kind)) t n node) (node .children) (n + 1))
         (spelt-then _ _ x y)
 
 -- ---- an emission from a record of the table, or from its end, ends at one
@@ -193,8 +207,8 @@ unfolding emit
 emit-within zero t n h = tt
 emit-within (suc d) t n h = go (leb (length t / 6) n) refl (parts-within (length t) (emit d t) (emit-within d t) _ (n + 1))
   where
-    go : (b : Bool) → leb (length t / 6) n ≡ b → (n + 1 ≤ length t → Within (length t) (parts (emit d t) (partsOf (layoutOf (recordAt t n .kind)) (recordAt t n)) (n + 1)))
-        → Within (length t) (cond b torn (parts (emit d t) (partsOf (layoutOf (recordAt t n .kind)) (recordAt t n)) (n + 1)))
+    go : (b : Bool) → leb (length t / 6) n ≡ b → (n + 1 ≤ length t → Within (length t) (parts (emit d t) (partsOf (layoutOf (recordAt t n .kind)) t n (recordAt t n)) (n + 1)))
+        → Within (length t) (cond b torn (parts (emit d t) (partsOf (layoutOf (recordAt t n .kind)) t n (recordAt t n)) (n + 1)))
     go true e x = tt
     go false e x = let i : n < length t / 6 = leb-false _ _ e in x (omega arith)
 
@@ -215,33 +229,33 @@ module _ (d : ℕ) (t : List ℕ) (n : ℕ) (h : n ≤ length t) (at e m : ℕ) 
   times-below c x g = next-below (length t) _ at e m w o o₁ (times-within (length t) (emit d t) (emit-within d t) c n h) x g
 
 -- ---- array_at
-module _ (item : ℕ → Emitted) (node : Node) (n at : ℕ) (w : Emit) (o o₁ : List ℕ) (x : Emits (followed (spelled (node .kind ∷ []) n) (times item 1)) at w o o₁) where
-  split : parts item (partsOf array node) n
-      ≡ followed (followed (spelled (node .kind ∷ []) n) (times item 1)) (parts item ((node .a ∷ node .b ∷ [], node .b) ∷ (lowsOf node ∷ [], lowsOf node) ∷ []))
+module _ (item : ℕ → Emitted) (t : List ℕ) (i : ℕ) (node : Node) (n at : ℕ) (w : Emit) (o o₁ : List ℕ) (x : Emits (followed (wrote (encode (node .kind)) n) (times item 1)) at w o o₁) where
+  split : parts item (partsOf array t i node) n
+      ≡ followed (followed (wrote (encode (node .kind)) n) (times item 1)) (parts item ((encode (node .a) ++ encode (node .b), node .b) ∷ (encode (lowsOf node), lowsOf node) ∷ []))
   unfolding partsOf one-part
-  split = parts-more item (node .kind ∷ []) 1 n _
+  split = parts-more item (encode (node .kind)) 1 n _
 
-  pub array-stop : w ≡ Stop → Emits (parts item (partsOf array node) n) at Stop o o₁
+  pub array-stop : w ≡ Stop → Emits (parts item (partsOf array t i node) n) at Stop o o₁
   array-stop g = emits-is _ _ at Stop o o₁ split (emits-stop _ _ at o o₁ (found _ at w _ o o₁ g x))
 
-  module _ (e m : ℕ) (g : w ≡ Next e m) (v : Emit) (o₂ : List ℕ) (y : Emits (followed (spelled (node .a ∷ node .b ∷ []) m) (times item (node .b))) e v o₁ o₂) where
-    rest : parts item ((node .a ∷ node .b ∷ [], node .b) ∷ (lowsOf node ∷ [], lowsOf node) ∷ []) m
-        ≡ followed (followed (spelled (node .a ∷ node .b ∷ []) m) (times item (node .b))) (parts item ((lowsOf node ∷ [], lowsOf node) ∷ []))
+  module _ (e m : ℕ) (g : w ≡ Next e m) (v : Emit) (o₂ : List ℕ) (y : Emits (followed (wrote (encode (node .a) ++ encode (node .b)) m) (times item (node .b))) e v o₁ o₂) where
+    rest : parts item ((encode (node .a) ++ encode (node .b), node .b) ∷ (encode (lowsOf node), lowsOf node) ∷ []) m
+        ≡ followed (followed (wrote (encode (node .a) ++ encode (node .b)) m) (times item (node .b))) (parts item ((encode (lowsOf node), lowsOf node) ∷ []))
     unfolding one-part
-    rest = parts-more item (node .a ∷ node .b ∷ []) (node .b) m _
+    rest = parts-more item (encode (node .a) ++ encode (node .b)) (node .b) m _
 
-    on : (r : Emit) (fin : List ℕ) → Emits (followed (followed (spelled (node .a ∷ node .b ∷ []) m) (times item (node .b))) (parts item ((lowsOf node ∷ [], lowsOf node) ∷ []))) e r o₁ fin
-        → Emits (parts item (partsOf array node) n) at r o fin
+    on : (r : Emit) (fin : List ℕ) → Emits (followed (followed (wrote (encode (node .a) ++ encode (node .b)) m) (times item (node .b))) (parts item ((encode (lowsOf node), lowsOf node) ∷ []))) e r o₁ fin
+        → Emits (parts item (partsOf array t i node) n) at r o fin
     on r fin q = emits-is _ _ at r o fin split (emits-next _ (parts item _) at e m r o o₁ fin (found _ at w _ o o₁ g x) (emits-is _ _ e r o₁ fin rest q))
 
-    pub sizes-stop : v ≡ Stop → Emits (parts item (partsOf array node) n) at Stop o o₂
+    pub sizes-stop : v ≡ Stop → Emits (parts item (partsOf array t i node) n) at Stop o o₂
     sizes-stop k = on Stop o₂ (emits-stop _ _ e o₁ o₂ (found _ e v _ o₁ o₂ k y))
 
     pub array-next : (e₂ m₂ lows : ℕ) (r : Emit) (o₃ : List ℕ) → v ≡ Next e₂ m₂ → lows ≡ lowsOf node
-        → Emits (followed (spelled (lows ∷ []) m₂) (times item lows)) e₂ r o₂ o₃ → Emits (parts item (partsOf array node) n) at r o o₃
+        → Emits (followed (wrote (encode lows) m₂) (times item lows)) e₂ r o₂ o₃ → Emits (parts item (partsOf array t i node) n) at r o o₃
     unfolding one-part
     array-next e₂ m₂ lows r o₃ k l q =
         on r o₃
-        (emits-next _ (parts item ((lowsOf node ∷ [], lowsOf node) ∷ [])) e e₂ m₂ r o₁ o₂ o₃ (found _ e v _ o₁ o₂ k y)
+        (emits-next _ (parts item ((encode (lowsOf node), lowsOf node) ∷ [])) e e₂ m₂ r o₁ o₂ o₃ (found _ e v _ o₁ o₂ k y)
         (emits-is _ _ e₂ r o₂ o₃
-        (parts-one item (lowsOf node ∷ []) (lowsOf node) m₂ ∙ ap (λ (i : ℕ). followed (spelled (i ∷ []) m₂) (times item i)) (sym l)) q))
+        (parts-one item (encode (lowsOf node)) (lowsOf node) m₂ ∙ ap (λ (i : ℕ). followed (wrote (encode i) m₂) (times item i)) (sym l)) q))

@@ -6,33 +6,26 @@ use mathlib.Core.Bool.{cond}
 use mathlib.Core.List.{List, [], _∷_, _++_}
 use lib.ListN.{length}
 use lib.Seq.{sets}
-use lib.Dec.{leb, eqb}
-use Rattle.grammar.specs.Emit.{Layout, plain, valued, array, instance, callable, field, locals, bound, Emitted, torn, wrote, andThen, spell, times, emit}
+use lib.Dec.{leb}
+use Rattle.grammar.specs.Emit.{Layout, partsOf, Emitted, torn, wrote, andThen, times, emit}
 use Rattle.grammar.specs.declared.Node.{Node}
 use Rattle.emission.specs.declared.Emit.{Emit}
 use Rattle.emission.specs.declared.Emit.the-variants.{Next, Stop}
 use Rattle.emission.specs.declared.Part.{Part}
 use Rattle.emission.specs.declared.Part.the-variants as Part
 
--- the numbers of a record's first part
-unfoldable pub frontOf : Layout → Node → List ℕ
-frontOf plain r = r .kind ∷ []
-frontOf valued r = r .kind ∷ r .a ∷ []
-frontOf array r = r .kind ∷ []
-frontOf instance r = r .kind ∷ r .b ∷ r .a ∷ r .children ∷ []
-frontOf callable r = r .b ∷ cond (eqb (r .a) 0) [] (r .a ∷ []) ++ (r .children - 1) ∷ []
-frontOf field r = 0x06 ∷ []
-frontOf locals r = 0x07 ∷ r .children ∷ []
-frontOf bound r = r .a ∷ []
+-- the bytes of a record's first part
+abbrev firstOf : List (List ℕ × ℕ) → List ℕ
+firstOf [] = []
+firstOf (p ∷ ps) = p .0
 
--- numbers alone, before record n
-abbrev pub spelled : List ℕ → ℕ → Emitted
-spelled vs n = wrote (spell vs []) n
+abbrev pub frontOf : Layout → List ℕ → ℕ → Node → List ℕ
+frontOf l t n r = firstOf (partsOf l t n r)
 
--- numbers put into a buffer from `at` on, where r is the offset after them; or not all fitted, and r is past the end
-pub data Spelt (vs : List ℕ) (at r : ℕ) (before after : List ℕ) : Type 0 where
-  put : at + length (spell vs []) ≤ length before → r ≡ at + length (spell vs []) → after ≡ sets before at (spell vs []) → Spelt vs at r before after
-  cut : length before < at + length (spell vs []) → r ≡ length before + 1 → length after ≡ length before → Spelt vs at r before after
+-- bytes put into a buffer from `at` on, where r is the offset after them; or not all fitted, and r is past the end
+pub data Spelt (bs : List ℕ) (at r : ℕ) (before after : List ℕ) : Type 0 where
+  put : at + length bs ≤ length before → r ≡ at + length bs → after ≡ sets before at bs → Spelt bs at r before after
+  cut : length before < at + length bs → r ≡ length before + 1 → length after ≡ length before → Spelt bs at r before after
 
 -- one emission after another
 unfoldable pub followed : Emitted → (ℕ → Emitted) → Emitted

@@ -1,13 +1,19 @@
 // The bytes of a node table, from its records alone. Nothing of the table is trusted: what is emitted counts only once it was judged.
 // Slices are passed on as reborrows, for speed, as in crate `walk`.
 ghost use mathlib.Core.Path.{_≡_};
-ghost use mathlib.Core.List.{[], _∷_};
+ghost use mathlib.Core.List.{_++_};
 ghost use Prim.Native.Nat.{_+_, _-_, _*_, _≤_, _<_};
 ghost use lib.ListN.{length};
-ghost use Rattle.grammar.specs.Table.{recordAt};
-ghost use Rattle.grammar.specs.Emit.{array, callable, layoutOf, partsOf, times, parts, emit};
+ghost use Rattle.number.specs.Number.{encode};
+ghost use Rattle.grammar.specs.Emit.{array, callable, layoutOf, paramCount, partsOf, times, parts, emit};
 ghost use Rattle.emission.specs.Emission.{frontOf, Spelt, Emits, Parted};
+use grammar::FIELD;
+use grammar::LOCALS;
+use grammar::LOW;
+use grammar::METHOD;
 use grammar::Node;
+use grammar::PROPERTY;
+use grammar::SIZE;
 
 const ARRAY: u32 = 0x14;
 
@@ -17,7 +23,7 @@ pub enum Emit {
     Stop,
 }
 
-// What is emitted of a record: its subtree, with where the next byte goes and which record is next; or its numbers, with so many children to come;
+// What is emitted of a record: its subtree, with where the next byte goes and which record is next; or its own bytes, with so many children to come;
 // or the table has no blob that fits.
 enum Part {
     Goes { at: usize, children: u32 },
@@ -35,26 +41,18 @@ fn less(x: u32, y: u32) -> u32
     x - y
 }
 
-// The record with index n.
-fn record_at(table: &[u32], n: usize) -> Node
+// The ParamCount of record n, a METHOD or PROPERTY: its children but the return type.
+fn param_count(table: &[u32], n: usize) -> u32
     requires { ⌜ 6 * n + 6 ≤ length (now table) ⌝ }
-    ensures { λ r. ⌜ r ≡ recordAt (now (table .entry)) n ⌝ }
+    ensures { λ r. ⌜ r ≡ paramCount (now (table .entry)) n ⌝ }
 {
-    let i = 6 * n;
-    Node {
-        kind: table[i],
-        a: table[i + 1],
-        b: table[i + 2],
-        children: table[i + 3],
-        at: table[i + 4],
-        after: table[i + 5],
-    }
+    less(table[6 * n + 3], 1)
 }
 
 // A number of one byte, as `number_to` puts it.
 fn byte_to(out: &mut [u8], v: u32, at: usize) -> usize
-    requires { ⌜ v < 128 ⌝ }
-    ensures { λ r. ⌜ Spelt (v ∷ []) at r (now (out .entry)) (now (out .exit)) ⌝ }
+    requires { ⌜ v < 0x80 ⌝ }
+    ensures { λ r. ⌜ Spelt (encode v) at r (now (out .entry)) (now (out .exit)) ⌝ }
 {
     if at < out.len() {
         out[at] = v as u8;
@@ -65,34 +63,35 @@ fn byte_to(out: &mut [u8], v: u32, at: usize) -> usize
 
 // One number where it fits: the offset after it, or one past the end of the buffer. Most numbers have one byte.
 fn number_to(out: &mut [u8], v: u32, at: usize) -> usize
-    ensures { λ r. ⌜ Spelt (v ∷ []) at r (now (out .entry)) (now (out .exit)) ⌝ }
+    ensures { λ r. ⌜ Spelt (encode v) at r (now (out .entry)) (now (out .exit)) ⌝ }
 {
     if v < 0x80 {
         return byte_to(out, v, at);
     }
-    let len = encoding::number_len(v);
+    let len = number::encoding::number_len(v);
     if out.len() < len {
         return out.len() + 1;
     }
     if out.len() - len < at {
         return out.len() + 1;
     }
-    encoding::put_number(out, at, v);
+    number::encoding::put_number(out, at, v);
     at + len
 }
 
 fn pair_to(out: &mut [u8], x: u32, y: u32, at: usize) -> usize
-    ensures { λ r. ⌜ Spelt (x ∷ y ∷ []) at r (now (out .entry)) (now (out .exit)) ⌝ }
+    ensures { λ r. ⌜ Spelt (encode x ++ encode y) at r (now (out .entry)) (now (out .exit)) ⌝ }
 {
     let e = number_to(out, x, at);
     number_to(out, y, e)
 }
 
 // METHOD or PROPERTY: the lead byte, a generic count where there is one, and ParamCount.
-fn call_to(out: &mut [u8], node: Node, at: usize) -> usize
-    ensures { λ r. ⌜ Spelt (frontOf callable node) at r (now (out .entry)) (now (out .exit)) ⌝ }
+fn call_to(out: &mut [u8], table: &[u32], node: Node, at: usize, n: usize) -> usize
+    requires { ⌜ 6 * n + 6 ≤ length (now table) ⌝ }
+    ensures { λ r. ⌜ Spelt (frontOf callable (now (table .entry)) n node) at r (now (out .entry)) (now (out .exit)) ⌝ }
 {
-    let count = less(node.children, 1);
+    let count = param_count(table, n);
     if node.a == 0 {
         return pair_to(out, node.b, count, at);
     }
@@ -100,9 +99,10 @@ fn call_to(out: &mut [u8], node: Node, at: usize) -> usize
     pair_to(out, node.a, count, e)
 }
 
-// The numbers that a record puts before its children, or before the first of them.
-fn front_to(out: &mut [u8], node: Node, at: usize) -> usize
-    ensures { λ r. ⌜ Spelt (frontOf (layoutOf (node .kind)) node) at r (now (out .entry)) (now (out .exit)) ⌝ }
+// What record n puts before its children, or before the first of them.
+fn front_to(out: &mut [u8], table: &[u32], node: Node, at: usize, n: usize) -> usize
+    requires { ⌜ 6 * n + 6 ≤ length (now table) ⌝ }
+    ensures { λ r. ⌜ Spelt (frontOf (layoutOf (node .kind)) (now (table .entry)) n node) at r (now (out .entry)) (now (out .exit)) ⌝ }
 {
     let kind = node.kind;
     match kind {
@@ -111,16 +111,16 @@ fn front_to(out: &mut [u8], node: Node, at: usize) -> usize
             let e = pair_to(out, kind, node.b, at);
             pair_to(out, node.a, node.children, e)
         }
-        0x100 | 0x103 => call_to(out, node, at),
-        0x101 => number_to(out, 0x06, at),
-        0x102 => pair_to(out, 0x07, node.children, at),
-        0x104 | 0x105 => number_to(out, node.a, at),
+        METHOD | PROPERTY => call_to(out, &*table, node, at, n),
+        FIELD => number_to(out, 0x06, at),
+        LOCALS => pair_to(out, 0x07, node.children, at),
+        SIZE | LOW => number_to(out, node.a, at),
         _ => number_to(out, kind, at),
     }
 }
 
 // The subtree whose root is record n, from the offset `at` on, with d levels left: up to its end where the record is an ARRAY or has no children,
-// and else the numbers before its children.
+// and else the bytes before its children.
 fn part_at(out: &mut [u8], d: usize, table: &[u32], at: usize, n: usize) -> Part
     requires { ⌜ n ≤ length (now table) ⌝ }
     ensures { λ r. ⌜ Parted d (now (table .entry)) n at r (now (out .entry)) (now (out .exit)) ⌝ }
@@ -131,14 +131,14 @@ fn part_at(out: &mut [u8], d: usize, table: &[u32], at: usize, n: usize) -> Part
     if table.len() < 6 * n + 6 {
         return Part::Stop;
     }
-    let node = record_at(table, n);
+    let node = grammar::record_at(table, n);
     if node.kind == ARRAY {
-        return match array_at(out, d - 1, &*table, node, at, n + 1) {
+        return match array_at(out, d - 1, &*table, node, at, n) {
             Emit::Next { at: e, node: m } => Part::Ends { at: e, node: m },
             Emit::Stop => Part::Stop,
         };
     }
-    let e = front_to(out, node, at);
+    let e = front_to(out, &*table, node, at, n);
     if out.len() < e {
         return Part::Stop;
     }
@@ -151,11 +151,11 @@ fn part_at(out: &mut [u8], d: usize, table: &[u32], at: usize, n: usize) -> Part
 
 // An ARRAY: its type, then Rank, NumSizes and the sizes, then NumLoBounds and the low bounds.
 fn array_at(out: &mut [u8], d: usize, table: &[u32], node: Node, at: usize, n: usize) -> Emit
-    requires { ⌜ n ≤ length (now table) ⌝ }
-    ensures { λ r. ⌜ Emits (parts (emit d (now (table .entry))) (partsOf array node) n) at r (now (out .entry)) (now (out .exit)) ⌝ }
+    requires { ⌜ n < length (now table) ⌝ }
+    ensures { λ r. ⌜ Emits (parts (emit d (now (table .entry))) (partsOf array (now (table .entry)) n node) (n + 1)) at r (now (out .entry)) (now (out .exit)) ⌝ }
 {
     let first = number_to(out, node.kind, at);
-    match all_at(out, d, &*table, 1, first, n) {
+    match all_at(out, d, &*table, 1, first, n + 1) {
         Emit::Next { at: e, node: m } => {
             let sizes = pair_to(out, node.a, node.b, e);
             match all_at(out, d, &*table, node.b, sizes, m) {

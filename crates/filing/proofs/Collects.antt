@@ -19,12 +19,13 @@ use Rattle.grammar.specs.declared.Node.{Node}
 use Rattle.grammar.proofs.Sound.{Holds, holds}
 use Rattle.grammar.proofs.Bounds.{Ends}
 use Rattle.grammar.proofs.Emits.{length-flat}
-use Rattle.bits.specs.Bits.{at, putBit, zeroed}
+use Rattle.answer.specs.Size.{maxSize, words}
+use Rattle.bits.specs.Bits.{bitAt, putBit, clearWords}
 use Rattle.standing.specs.Standing.{any}
 use Rattle.bits.proofs.BitLaws.{at-put, at-put-other, getD-put-out, length-put, length-zeroed, getD-zeroed-out, at-emptied, at-emptied-other, eqb-same}
 use Rattle.standing.proofs.Standings.{any-cong}
-use Rattle.filing.specs.Outcome.{isMod, isModOf, has, namesRow}
-use Rattle.filing.specs.Named.{rowNamed, collected, namedBy}
+use Rattle.filing.specs.Outcome.{isModifier, isModifierOf, has, namesRow}
+use Rattle.filing.specs.Named.{rowNamed, collectOf, namedBy}
 
 cond-le : (b : Bool) (x n : ℕ) → leb x n ≡ b → cond b x 0 ≤ n
 cond-le true x n e = leb-true x n e
@@ -34,96 +35,96 @@ cond-zero : (b : Bool) (x n : ℕ) → x ≤ n → cond b x 0 ≤ n
 cond-zero true x n e = e
 cond-zero false x n e = omega arith
 
-pub row-le : (w : ℕ) (t : List ℕ) (k : ℕ) → rowNamed w t k ≤ 32 * w
+pub row-le : (t : List ℕ) (k : ℕ) → rowNamed t k ≤ maxSize
 unfolding rowNamed
-row-le w t k =
+row-le t k =
     let a = getD t (6 * k + 1) 0 in
-    cond-zero (isMod (getD t (6 * k) 0)) (cond (eqb (a % 4) 2) (cond (leb (a / 4) (32 * w)) (a / 4) 0) 0) (32 * w)
-    (cond-zero (eqb (a % 4) 2) (cond (leb (a / 4) (32 * w)) (a / 4) 0) (32 * w) (cond-le (leb (a / 4) (32 * w)) (a / 4) (32 * w) refl))
+    cond-zero (isModifier (getD t (6 * k) 0)) (cond (eqb (a % 4) 2) (cond (leb (a / 4) (maxSize)) (a / 4) 0) 0) (maxSize)
+    (cond-zero (eqb (a % 4) 2) (cond (leb (a / 4) (maxSize)) (a / 4) 0) (maxSize) (cond-le (leb (a / 4) (maxSize)) (a / 4) (maxSize) refl))
 
 eqb-pred : (r s : ℕ) → (r ≡ 0 → ⊥) → eqb s (r - 1) ≡ eqb r (s + 1)
 eqb-pred r s ne = eqb-same s (r - 1) r (s + 1) (λ e. omega arith) (λ e. omega arith)
 
 -- ---- the bits set for the records of t in row i
-module _ (w : ℕ) (t : List ℕ) (i : ℕ) (m : List ℕ) where
-  length-cond : (b : Bool) (l : List ℕ) (s : ℕ) → length (cond b l (putBit w l i s)) ≡ length l
+module _ (t : List ℕ) (i : ℕ) (m : List ℕ) where
+  length-cond : (b : Bool) (l : List ℕ) (s : ℕ) → length (cond b l (putBit words l i s)) ≡ length l
   length-cond true l s = refl
-  length-cond false l s = length-put w l i s
+  length-cond false l s = length-put words l i s
 
-  pub length-collected : (n : ℕ) → length (collected w t n i m) ≡ length m
-  unfolding collected
+  pub length-collected : (n : ℕ) → length (collectOf t n i m) ≡ length m
+  unfolding collectOf
   length-collected zero = refl
-  length-collected (suc n) = length-cond (eqb (rowNamed w t n) 0) (collected w t n i m) (rowNamed w t n - 1) ∙ length-collected n
+  length-collected (suc n) = length-cond (eqb (rowNamed t n) 0) (collectOf t n i m) (rowNamed t n - 1) ∙ length-collected n
 
-  pub collected-none : m ≡ collected w t 0 i m
-  unfolding collected
+  pub collected-none : m ≡ collectOf t 0 i m
+  unfolding collectOf
   collected-none = refl
 
-  pub collected-kept : (k : ℕ) → rowNamed w t k ≡ 0 → collected w t k i m ≡ collected w t (k + 1) i m
-  unfolding collected
-  collected-kept k e = rw add-one (rw (eq-eqb (rowNamed w t k) 0 e))
+  pub collected-kept : (k : ℕ) → rowNamed t k ≡ 0 → collectOf t k i m ≡ collectOf t (k + 1) i m
+  unfolding collectOf
+  collected-kept k e = rw add-one (rw (eq-eqb (rowNamed t k) 0 e))
 
-  pub collected-put : (k : ℕ) → (rowNamed w t k ≡ 0 → ⊥) → putBit w (collected w t k i m) i (rowNamed w t k - 1) ≡ collected w t (k + 1) i m
-  unfolding collected
-  collected-put k e = rw add-one (rw (ne-eqb (rowNamed w t k) 0 e))
+  pub collected-put : (k : ℕ) → (rowNamed t k ≡ 0 → ⊥) → putBit words (collectOf t k i m) i (rowNamed t k - 1) ≡ collectOf t (k + 1) i m
+  unfolding collectOf
+  collected-put k e = rw add-one (rw (ne-eqb (rowNamed t k) 0 e))
 
-  at-next : (n s : ℕ) → i * w + w ≤ length m → (b : Bool) → eqb (rowNamed w t n) 0 ≡ b
-      → at w (collected w t n i m) i s ≡ (at w m i s || any n (λ k. eqb (rowNamed w t k) (s + 1)))
-      → at w (cond b (collected w t n i m) (putBit w (collected w t n i m) i (rowNamed w t n - 1))) i s
-      ≡ (at w m i s || (any n (λ k. eqb (rowNamed w t k) (s + 1)) || eqb (rowNamed w t n) (s + 1)))
+  at-next : (n s : ℕ) → i * words + words ≤ length m → (b : Bool) → eqb (rowNamed t n) 0 ≡ b
+      → bitAt words (collectOf t n i m) i s ≡ (bitAt words m i s || any n (λ k. eqb (rowNamed t k) (s + 1)))
+      → bitAt words (cond b (collectOf t n i m) (putBit words (collectOf t n i m) i (rowNamed t n - 1))) i s
+      ≡ (bitAt words m i s || (any n (λ k. eqb (rowNamed t k) (s + 1)) || eqb (rowNamed t n) (s + 1)))
   at-next n s h true e ih =
-      let z : eqb (rowNamed w t n) (s + 1) ≡ false = ne-eqb (rowNamed w t n) (s + 1) (let y = eqb-true (rowNamed w t n) 0 e in omega arith) in
-      rw (z, or-false (any n (λ k. eqb (rowNamed w t k) (s + 1)))) ih
+      let z : eqb (rowNamed t n) (s + 1) ≡ false = ne-eqb (rowNamed t n) (s + 1) (let y = eqb-true (rowNamed t n) 0 e in omega arith) in
+      rw (z, or-false (any n (λ k. eqb (rowNamed t k) (s + 1)))) ih
   at-next n s h false e ih =
-      let ne = eqb-false (rowNamed w t n) 0 e in
-      at-put w (collected w t n i m) i (rowNamed w t n - 1) s (omega (arith, length-collected n, row-le w t n))
-      ∙ ap (λ (x : Bool). at w (collected w t n i m) i s || x) (eqb-pred (rowNamed w t n) s ne)
-      ∙ ap (λ (x : Bool). x || eqb (rowNamed w t n) (s + 1)) ih
-      ∙ or-assoc (at w m i s) (any n (λ k. eqb (rowNamed w t k) (s + 1))) (eqb (rowNamed w t n) (s + 1))
+      let ne = eqb-false (rowNamed t n) 0 e in
+      at-put words (collectOf t n i m) i (rowNamed t n - 1) s (omega (arith, length-collected n, row-le t n))
+      ∙ ap (λ (x : Bool). bitAt words (collectOf t n i m) i s || x) (eqb-pred (rowNamed t n) s ne)
+      ∙ ap (λ (x : Bool). x || eqb (rowNamed t n) (s + 1)) ih
+      ∙ or-assoc (bitAt words m i s) (any n (λ k. eqb (rowNamed t k) (s + 1))) (eqb (rowNamed t n) (s + 1))
 
   -- bit s is set exactly when it was, or some record names row s + 1
-  at-collected : (n s : ℕ) → i * w + w ≤ length m → at w (collected w t n i m) i s ≡ (at w m i s || any n (λ k. eqb (rowNamed w t k) (s + 1)))
-  unfolding collected any
+  at-collected : (n s : ℕ) → i * words + words ≤ length m → bitAt words (collectOf t n i m) i s ≡ (bitAt words m i s || any n (λ k. eqb (rowNamed t k) (s + 1)))
+  unfolding collectOf any
   at-collected zero s h = sym (or-false _)
-  at-collected (suc n) s h = at-next n s h (eqb (rowNamed w t n) 0) refl (at-collected n s h)
+  at-collected (suc n) s h = at-next n s h (eqb (rowNamed t n) 0) refl (at-collected n s h)
 
-  other-next : (j n s : ℕ) → (j ≡ i → ⊥) → s < 32 * w → (b : Bool) → eqb (rowNamed w t n) 0 ≡ b
-      → at w (cond b (collected w t n i m) (putBit w (collected w t n i m) i (rowNamed w t n - 1))) j s ≡ at w (collected w t n i m) j s
+  other-next : (j n s : ℕ) → (j ≡ i → ⊥) → s < maxSize → (b : Bool) → eqb (rowNamed t n) 0 ≡ b
+      → bitAt words (cond b (collectOf t n i m) (putBit words (collectOf t n i m) i (rowNamed t n - 1))) j s ≡ bitAt words (collectOf t n i m) j s
   other-next j n s ne hs true e = refl
   other-next j n s ne hs false e =
-      let nz = eqb-false (rowNamed w t n) 0 e in
-      at-put-other w (collected w t n i m) i (rowNamed w t n - 1) j s ne (omega (arith, row-le w t n)) hs
+      let nz = eqb-false (rowNamed t n) 0 e in
+      at-put-other words (collectOf t n i m) i (rowNamed t n - 1) j s ne (omega (arith, row-le t n)) hs
 
   -- the other rows keep theirs
-  at-collected-other : (j n s : ℕ) → (j ≡ i → ⊥) → s < 32 * w → at w (collected w t n i m) j s ≡ at w m j s
-  unfolding collected
+  at-collected-other : (j n s : ℕ) → (j ≡ i → ⊥) → s < maxSize → bitAt words (collectOf t n i m) j s ≡ bitAt words m j s
+  unfolding collectOf
   at-collected-other j zero s ne hs = refl
-  at-collected-other j (suc n) s ne hs = other-next j n s ne hs (eqb (rowNamed w t n) 0) refl ∙ at-collected-other j n s ne hs
+  at-collected-other j (suc n) s ne hs = other-next j n s ne hs (eqb (rowNamed t n) 0) refl ∙ at-collected-other j n s ne hs
 
-  out-next : (p n : ℕ) → (p < i * w) ⊎ (i * w + w ≤ p) → (b : Bool) → eqb (rowNamed w t n) 0 ≡ b
-      → getD (cond b (collected w t n i m) (putBit w (collected w t n i m) i (rowNamed w t n - 1))) p 0 ≡ getD (collected w t n i m) p 0
+  out-next : (p n : ℕ) → (p < i * words) ⊎ (i * words + words ≤ p) → (b : Bool) → eqb (rowNamed t n) 0 ≡ b
+      → getD (cond b (collectOf t n i m) (putBit words (collectOf t n i m) i (rowNamed t n - 1))) p 0 ≡ getD (collectOf t n i m) p 0
   out-next p n h true e = refl
   out-next p n h false e =
-      let nz = eqb-false (rowNamed w t n) 0 e in
-      getD-put-out w (collected w t n i m) i (rowNamed w t n - 1) p (omega (arith, row-le w t n)) h
+      let nz = eqb-false (rowNamed t n) 0 e in
+      getD-put-out words (collectOf t n i m) i (rowNamed t n - 1) p (omega (arith, row-le t n)) h
 
   -- a word out of row i keeps its number
-  getD-collected-out : (p n : ℕ) → (p < i * w) ⊎ (i * w + w ≤ p) → getD (collected w t n i m) p 0 ≡ getD m p 0
-  unfolding collected
+  getD-collected-out : (p n : ℕ) → (p < i * words) ⊎ (i * words + words ≤ p) → getD (collectOf t n i m) p 0 ≡ getD m p 0
+  unfolding collectOf
   getD-collected-out p zero h = refl
-  getD-collected-out p (suc n) h = out-next p n h (eqb (rowNamed w t n) 0) refl ∙ getD-collected-out p n h
+  getD-collected-out p (suc n) h = out-next p n h (eqb (rowNamed t n) 0) refl ∙ getD-collected-out p n h
 
 -- only the first n records count
-pub collected-cong : (w : ℕ) (t u : List ℕ) (i : ℕ) (m : List ℕ) (n : ℕ) → ((k : ℕ) → k < n → rowNamed w t k ≡ rowNamed w u k)
-    → collected w t n i m ≡ collected w u n i m
-unfolding collected
-collected-cong w t u i m zero e = refl
-collected-cong w t u i m (suc n) e = rw (collected-cong w t u i m n (λ k h. e k (omega arith)), e n (le-refl (suc n)))
+pub collected-cong : (t u : List ℕ) (i : ℕ) (m : List ℕ) (n : ℕ) → ((k : ℕ) → k < n → rowNamed t k ≡ rowNamed u k)
+    → collectOf t n i m ≡ collectOf u n i m
+unfolding collectOf
+collected-cong t u i m zero e = refl
+collected-cong t u i m (suc n) e = rw (collected-cong t u i m n (λ k h. e k (omega arith)), e n (le-refl (suc n)))
 
 -- what stands behind a table's records names nothing
-pub named-front : (w : ℕ) (rs : List Node) (x : List ℕ) (k : ℕ) → k < length rs → rowNamed w (flat rs ++ x) k ≡ rowNamed w (flat rs) k
+pub named-front : (rs : List Node) (x : List ℕ) (k : ℕ) → k < length rs → rowNamed (flat rs ++ x) k ≡ rowNamed (flat rs) k
 unfolding rowNamed
-named-front w rs x k h =
+named-front rs x k h =
     rw (
       List·getD-append (flat rs) x 0 (6 * k) (omega (arith, length-flat rs)),
       List·getD-append (flat rs) x 0 (6 * k + 1) (omega (arith, length-flat rs)),
@@ -132,29 +133,29 @@ named-front w rs x k h =
 -- ---- the flat table's rows are those of its records
 
 -- a record's own test, by its numbers
-token-test : (w a s : ℕ) → s < 32 * w → eqb (cond (eqb (a % 4) 2) (cond (leb (a / 4) (32 * w)) (a / 4) 0) 0) (s + 1) ≡ eqb a (4 * (s + 1) + 2)
-token-test w a s h = go (eqb (a % 4) 2) (leb (a / 4) (32 * w)) refl refl
+token-test : (a s : ℕ) → s < maxSize → eqb (cond (eqb (a % 4) 2) (cond (leb (a / 4) (maxSize)) (a / 4) 0) 0) (s + 1) ≡ eqb a (4 * (s + 1) + 2)
+token-test a s h = go (eqb (a % 4) 2) (leb (a / 4) (maxSize)) refl refl
   where
-    go : (x y : Bool) → eqb (a % 4) 2 ≡ x → leb (a / 4) (32 * w) ≡ y → eqb (cond x (cond y (a / 4) 0) 0) (s + 1) ≡ eqb a (4 * (s + 1) + 2)
+    go : (x y : Bool) → eqb (a % 4) 2 ≡ x → leb (a / 4) (maxSize) ≡ y → eqb (cond x (cond y (a / 4) 0) 0) (s + 1) ≡ eqb a (4 * (s + 1) + 2)
     go true true e f = let z = eqb-true (a % 4) 2 e in eqb-same (a / 4) (s + 1) a (4 * (s + 1) + 2) (λ q. omega arith) (λ q. omega arith)
     go true false e f =
-        by-cases (decLe (a / 4) (32 * w)) (λ (l : a / 4 ≤ 32 * w). absurd (mathlib.Core.Bool.true≢false (sym (le-leb _ _ l) ∙ f)))
+        by-cases (decLe (a / 4) (maxSize)) (λ (l : a / 4 ≤ maxSize). absurd (mathlib.Core.Bool.true≢false (sym (le-leb _ _ l) ∙ f)))
         (λ nl. ne-eqb 0 (s + 1) (omega arith) ∙ sym (ne-eqb a (4 * (s + 1) + 2) (λ q. nl (omega arith))))
     go false y e f =
         let z = eqb-false (a % 4) 2 e in
         ne-eqb 0 (s + 1) (omega arith) ∙ sym (ne-eqb a (4 * (s + 1) + 2) (λ q. z (omega arith)))
 
-record-test : (w : ℕ) (r : Node) (x : List ℕ) (s : ℕ) → s < 32 * w → eqb (rowNamed w (six r ++ x) 0) (s + 1) ≡ isModOf (s + 1) r
+record-test : (r : Node) (x : List ℕ) (s : ℕ) → s < maxSize → eqb (rowNamed (six r ++ x) 0) (s + 1) ≡ isModifierOf (s + 1) r
 unfolding rowNamed
-record-test w r x s h = go (isMod (r .kind))
+record-test r x s h = go (isModifier (r .kind))
   where
-    go : (b : Bool) → eqb (cond b (cond (eqb (r .a % 4) 2) (cond (leb (r .a / 4) (32 * w)) (r .a / 4) 0) 0) 0) (s + 1) ≡ (b && eqb (r .a) (4 * (s + 1) + 2))
-    go true = token-test w (r .a) s h
+    go : (b : Bool) → eqb (cond b (cond (eqb (r .a % 4) 2) (cond (leb (r .a / 4) (maxSize)) (r .a / 4) 0) 0) 0) (s + 1) ≡ (b && eqb (r .a) (4 * (s + 1) + 2))
+    go true = token-test (r .a) s h
     go false = ne-eqb 0 (s + 1) (omega arith)
 
-named-tail : (w : ℕ) (r : Node) (x : List ℕ) (k : ℕ) → rowNamed w (six r ++ x) (suc k) ≡ rowNamed w x k
+named-tail : (r : Node) (x : List ℕ) (k : ℕ) → rowNamed (six r ++ x) (suc k) ≡ rowNamed x k
 unfolding rowNamed
-named-tail w r x k =
+named-tail r x k =
     let e : 6 * suc k ≡ suc (suc (suc (suc (suc (suc (6 * k)))))) = omega arith in
     let f : 6 * suc k + 1 ≡ suc (suc (suc (suc (suc (suc (6 * k + 1)))))) = omega arith in
     rw (f, e)
@@ -165,42 +166,42 @@ any-shift zero p = sym (or-false (p 0))
 any-shift (suc n) p = rw (any-shift n p) (or-assoc (p 0) (any n (λ k. p (suc k))) (p (suc n)))
 
 -- some record of the flat table names row s + 1
-any-flat : (w : ℕ) (rs : List Node) (s : ℕ) → s < 32 * w → any (length rs) (λ k. eqb (rowNamed w (flat rs) k) (s + 1)) ≡ has (isModOf (s + 1)) rs
+any-flat : (rs : List Node) (s : ℕ) → s < maxSize → any (length rs) (λ k. eqb (rowNamed (flat rs) k) (s + 1)) ≡ has (isModifierOf (s + 1)) rs
 unfolding flat has any
-any-flat w [] s h = refl
-any-flat w (r ∷ rs) s h =
-    any-shift (length rs) (λ k. eqb (rowNamed w (six r ++ flat rs) k) (s + 1))
+any-flat [] s h = refl
+any-flat (r ∷ rs) s h =
+    any-shift (length rs) (λ k. eqb (rowNamed (six r ++ flat rs) k) (s + 1))
     ∙ rw (
-      record-test w r (flat rs) s h,
-      any-cong (length rs) (λ k. eqb (rowNamed w (six r ++ flat rs) (suc k)) (s + 1)) (λ k. eqb (rowNamed w (flat rs) k) (s + 1))
-          (λ k hk. ap (λ (y : ℕ). eqb y (s + 1)) (named-tail w r (flat rs) k)),
-      any-flat w rs s h,
+      record-test r (flat rs) s h,
+      any-cong (length rs) (λ k. eqb (rowNamed (six r ++ flat rs) (suc k)) (s + 1)) (λ k. eqb (rowNamed (flat rs) k) (s + 1))
+          (λ k hk. ap (λ (y : ℕ). eqb y (s + 1)) (named-tail r (flat rs) k)),
+      any-flat rs s h,
     )
 
 -- ---- what judging leaves
-module _ (w i : ℕ) (m : List ℕ) where
-  pub length-named : (o : Out) → length (namedBy w o i m) ≡ length m
+module _ (i : ℕ) (m : List ℕ) where
+  pub length-named : (o : Out) → length (namedBy o i m) ≡ length m
   unfolding namedBy
-  length-named (fault code place) = length-zeroed m (i * w) w
-  length-named (done at n rs) = length-collected w (flat rs) i (zeroed m (i * w) w) n ∙ length-zeroed m (i * w) w
+  length-named (fault code place) = length-zeroed m (i * words) words
+  length-named (done at n rs) = length-collected (flat rs) i (clearWords m (i * words) words) n ∙ length-zeroed m (i * words) words
 
   -- row i's set is what the blob names
-  pub at-named : (o : Out) → Holds (Ends 0) o → (s : ℕ) → i * w + w ≤ length m → s < 32 * w → at w (namedBy w o i m) i s ≡ namesRow (some o) (s + 1)
+  pub at-named : (o : Out) → Holds (Ends 0) o → (s : ℕ) → i * words + words ≤ length m → s < maxSize → bitAt words (namedBy o i m) i s ≡ namesRow (some o) (s + 1)
   unfolding namedBy
-  at-named (fault code place) h s l hs = at-emptied w m i s l hs
+  at-named (fault code place) h s l hs = at-emptied words m i s l hs
   at-named (done a n rs) (holds h) s l hs =
       let e : n ≡ length rs = omega (arith, h) in
-      at-collected w (flat rs) i (zeroed m (i * w) w) n s (omega (arith, length-zeroed m (i * w) w))
-      ∙ rw (at-emptied w m i s l hs, e) (any-flat w rs s hs)
+      at-collected (flat rs) i (clearWords m (i * words) words) n s (omega (arith, length-zeroed m (i * words) words))
+      ∙ rw (at-emptied words m i s l hs, e) (any-flat rs s hs)
 
   -- the other rows keep theirs
-  pub at-named-other : (o : Out) (j s : ℕ) → (j ≡ i → ⊥) → s < 32 * w → at w (namedBy w o i m) j s ≡ at w m j s
+  pub at-named-other : (o : Out) (j s : ℕ) → (j ≡ i → ⊥) → s < maxSize → bitAt words (namedBy o i m) j s ≡ bitAt words m j s
   unfolding namedBy
-  at-named-other (fault code place) j s ne hs = at-emptied-other w m i j s ne hs
-  at-named-other (done a n rs) j s ne hs = at-collected-other w (flat rs) i (zeroed m (i * w) w) j n s ne hs ∙ at-emptied-other w m i j s ne hs
+  at-named-other (fault code place) j s ne hs = at-emptied-other words m i j s ne hs
+  at-named-other (done a n rs) j s ne hs = at-collected-other (flat rs) i (clearWords m (i * words) words) j n s ne hs ∙ at-emptied-other words m i j s ne hs
 
   -- and no word out of row i is written
-  pub getD-named-out : (o : Out) (p : ℕ) → (p < i * w) ⊎ (i * w + w ≤ p) → getD (namedBy w o i m) p 0 ≡ getD m p 0
+  pub getD-named-out : (o : Out) (p : ℕ) → (p < i * words) ⊎ (i * words + words ≤ p) → getD (namedBy o i m) p 0 ≡ getD m p 0
   unfolding namedBy
-  getD-named-out (fault code place) p h = getD-zeroed-out m (i * w) w p h
-  getD-named-out (done a n rs) p h = getD-collected-out w (flat rs) i (zeroed m (i * w) w) p n h ∙ getD-zeroed-out m (i * w) w p h
+  getD-named-out (fault code place) p h = getD-zeroed-out m (i * words) words p h
+  getD-named-out (done a n rs) p h = getD-collected-out (flat rs) i (clearWords m (i * words) words) p n h ∙ getD-zeroed-out m (i * words) words p h

@@ -1,29 +1,30 @@
--- The rows that a flat node table's modifiers name, put as bits into row r of a table of w words to a row. A record is six numbers, kind
--- and token first.
-use Prim.Native.Nat.{ℕ, zero, suc, _+_, _-_, _*_, _/_, _%_}
+-- The rows that a flat node table's modifiers name, put as bits into row r of a table of `words` words to a row.
+use Prim.Native.Nat.{ℕ, zero, suc, _-_}
 use mathlib.Core.Bool.{cond}
 use mathlib.Core.List.{List}
-use lib.ListN.{getD}
 use lib.Dec.{leb, eqb}
+use Rattle.number.specs.Token.{tagOf, rowOf}
+use Rattle.answer.specs.Size.{maxSize, words}
 use Rattle.bits.specs.Bits.{putBit, emptied}
-use Rattle.grammar.specs.Table.{flat}
+use Rattle.grammar.specs.Table.{flat, recordAt}
 use Rattle.grammar.specs.Judge.{Out, fault, done}
-use Rattle.filing.specs.Outcome.{isMod}
+use Rattle.grammar.specs.declared.Node.{Node}
+use Rattle.filing.specs.Outcome.{isModifier}
 
--- the row that record k names: 0 unless it is a modifier whose token has the tag 2 and a row from 1 to 32 * w
-unfoldable pub rowNamed : ℕ → List ℕ → ℕ → ℕ
-rowNamed w t k =
-    cond (isMod (getD t (6 * k) 0))
-    (cond (eqb (getD t (6 * k + 1) 0 % 4) 2) (cond (leb (getD t (6 * k + 1) 0 / 4) (32 * w)) (getD t (6 * k + 1) 0 / 4) 0) 0)
-    0
+-- the row that a record names: 0 unless it is a modifier whose token has the tag 2 and a row that a register may have
+abbrev pub namedIn : Node → ℕ
+namedIn r = cond (isModifier (r .kind)) (cond (eqb (tagOf (r .a)) 2) (cond (leb (rowOf (r .a)) maxSize) (rowOf (r .a)) 0) 0) 0
+
+-- .. and that record k of a flat table names
+unfoldable pub rowNamed : List ℕ → ℕ → ℕ
+rowNamed t k = namedIn (recordAt t k)
 
 -- the first n records' rows, put into row r of m
-unfoldable pub collected : ℕ → List ℕ → ℕ → ℕ → List ℕ → List ℕ
-collected w t zero r m = m
-collected w t (suc k) r m =
-    cond (eqb (rowNamed w t k) 0) (collected w t k r m) (putBit w (collected w t k r m) r (rowNamed w t k - 1))
+unfoldable pub collectOf : List ℕ → ℕ → ℕ → List ℕ → List ℕ
+collectOf t zero r m = m
+collectOf t (suc k) r m = cond (eqb (rowNamed t k) 0) (collectOf t k r m) (putBit words (collectOf t k r m) r (rowNamed t k - 1))
 
 -- row r's set after judging: the rows that an accepted blob names, and none of a refused one
-unfoldable pub namedBy : ℕ → Out → ℕ → List ℕ → List ℕ
-namedBy w (fault code place) r m = emptied w m r
-namedBy w (done at n rs) r m = collected w (flat rs) n r (emptied w m r)
+unfoldable pub namedBy : Out → ℕ → List ℕ → List ℕ
+namedBy (fault code place) r m = emptied words m r
+namedBy (done at n rs) r m = collectOf (flat rs) n r (emptied words m r)

@@ -5,12 +5,13 @@ use mathlib.Core.Bool.{Bool, false, _||_, _&&_}
 use mathlib.Core.List.{List, [], _∷_}
 use mathlib.Core.Option.{Option, none, some}
 use lib.Dec.{eqb}
+use Rattle.number.specs.declared.token.Counts.{Counts}
 use Rattle.grammar.specs.Judge.{Out, fault, done, judge}
 use Rattle.grammar.specs.declared.Node.{Node}
 
 -- "judges each by demand 2 as kind 0, with the opening's counts, its size as the TypeSpec count, and records enough"
-abbrev pub judged : (defs refs rows : ℕ) → List ℕ → Out
-judged defs refs rows blob = judge 0 (record { defs = defs; refs = refs; specs = rows }) blob
+abbrev pub judged : Counts → List ℕ → Out
+judged counts blob = judge 0 counts blob
 
 -- 0 never filed, 1 refused, 2 accepted
 abbrev pub stateOf : Option Out → ℕ
@@ -30,12 +31,12 @@ placeOf (some (fault code place)) = place
 placeOf (some (done at n rs)) = 0
 
 -- "Mod: 1F or 20": such a node's kind
-abbrev pub isMod : ℕ → Bool
-isMod kind = eqb kind 0x1F || eqb kind 0x20
+abbrev pub isModifier : ℕ → Bool
+isModifier kind = eqb kind 0x1F || eqb kind 0x20
 
 -- "a Mod .. has the token of TypeSpec row s", which is "row times 4 plus tag", tag 2
-abbrev pub isModOf : ℕ → Node → Bool
-isModOf s r = isMod (r .kind) && eqb (r .a) (4 * s + 2)
+abbrev pub isModifierOf : ℕ → Node → Bool
+isModifierOf s r = isModifier (r .kind) && eqb (r .a) (4 * s + 2)
 
 -- some record of the list is so
 unfoldable pub has : (Node → Bool) → List Node → Bool
@@ -46,4 +47,4 @@ has p (r ∷ rs) = p r || has p rs
 abbrev pub namesRow : Option Out → ℕ → Bool
 namesRow none s = false
 namesRow (some (fault code place)) s = false
-namesRow (some (done at n rs)) s = has (isModOf s) rs
+namesRow (some (done at n rs)) s = has (isModifierOf s) rs

@@ -2,18 +2,15 @@
 ghost use mathlib.Core.Path.{_≡_};
 ghost use Prim.Native.Nat.{_+_, _*_, _≤_};
 ghost use lib.ListN.{length};
-ghost use Rattle.grammar.specs.Judge.{judge};
 ghost use Rattle.answer.specs.Size.{words};
+ghost use Rattle.filing.specs.Outcome.{judged};
 ghost use Rattle.filing.specs.Kept.{findingOf};
 ghost use Rattle.filing.specs.Named.{namedBy};
 use answer::WORDS;
-use grammar::MAX_NODES;
+use grammar::MAX_TABLE;
 use number::token::Counts;
 
 mod named;
-
-// The numbers of a node table that has a record for every node.
-const TABLE: usize = 6 * MAX_NODES;
 
 // What is kept of a judged blob beside its set of rows.
 pub struct Finding {
@@ -25,10 +22,10 @@ pub struct Finding {
 // Judges a blob for row i, whose set of rows is written to its words of `sets`.
 pub fn judge_row(sets: &mut [u32], i: usize, counts: Counts, blob: &[u8]) -> Finding
     requires { ⌜ i * words + words ≤ length (now sets) ⌝ }
-    ensures { λ r. ⌜ (r ≡ findingOf (judge 0 counts (now (blob .entry)))) × (now (sets .exit) ≡ namedBy words (judge 0 counts (now (blob .entry))) i (now (sets .entry))) ⌝ }
+    ensures { λ r. ⌜ (r ≡ findingOf (judged counts (now (blob .entry)))) × (now (sets .exit) ≡ namedBy (judged counts (now (blob .entry))) i (now (sets .entry))) ⌝ }
 {
-    bits::clear(sets, i * WORDS, WORDS);
-    let mut table = [0u32; TABLE];
+    bits::clear_words(sets, i * WORDS, WORDS);
+    let mut table = [0u32; MAX_TABLE];
     let answer = reader::read(0, counts, blob, &mut table);
     let code = answer.code;
     let place = answer.place;
@@ -39,7 +36,7 @@ pub fn judge_row(sets: &mut [u32], i: usize, counts: Counts, blob: &[u8]) -> Fin
             place: place as u16,
         };
     }
-    named::collect(sets, WORDS, i, &table, place);
+    named::collect(sets, i, &table, place);
     Finding {
         state: 2,
         code: 0,

@@ -2,12 +2,17 @@
 ghost use mathlib.Core.Path.{_≡_};
 ghost use Prim.Native.Nat.{_+_, _*_, _≤_};
 ghost use lib.ListN.{length};
-ghost use Rattle.filing.specs.Outcome.{isMod};
-ghost use Rattle.filing.specs.Named.{rowNamed, collected};
+ghost use Rattle.filing.specs.Outcome.{isModifier};
+ghost use Rattle.answer.specs.Size.{words};
+ghost use Rattle.filing.specs.Named.{rowNamed, collectOf};
+use answer::MAX_SIZE;
+use answer::WORDS;
+use number::token::row_of;
+use number::token::tag_of;
 
 // CMOD_REQD or CMOD_OPT.
 fn is_modifier(kind: u32) -> bool
-    ensures { λ r. ⌜ r ≡ isMod kind ⌝ }
+    ensures { λ r. ⌜ r ≡ isModifier kind ⌝ }
 {
     if kind == 0x1F {
         return true;
@@ -16,15 +21,16 @@ fn is_modifier(kind: u32) -> bool
 }
 
 // The TypeSpec row that record k names, or 0.
-fn row_named(t: &[u32], k: usize, w: usize) -> usize
-    requires { ⌜ (6 * k + 6 ≤ length (now t)) × (w ≤ 1024) ⌝ }
-    ensures { λ r. ⌜ r ≡ rowNamed w (now (t .entry)) k ⌝ }
+fn row_named(t: &[u32], k: usize) -> usize
+    requires { ⌜ 6 * k + 6 ≤ length (now t) ⌝ }
+    ensures { λ r. ⌜ r ≡ rowNamed (now (t .entry)) k ⌝ }
 {
-    if is_modifier(t[6 * k]) {
-        let a = t[6 * k + 1];
-        if a % 4 == 2 {
-            let row = (a / 4) as usize;
-            if row <= 32 * w {
+    let node = grammar::record_at(t, k);
+    if is_modifier(node.kind) {
+        let a = node.a;
+        if tag_of(a) == 2 {
+            let row = row_of(a) as usize;
+            if row <= MAX_SIZE {
                 return row;
             }
             return 0;
@@ -35,14 +41,14 @@ fn row_named(t: &[u32], k: usize, w: usize) -> usize
 }
 
 // Puts each row that n records name into row i's set, in m.
-pub fn collect(m: &mut [u32], w: usize, i: usize, t: &[u32], n: usize)
-    requires { ⌜ (i * w + w ≤ length (now m)) × (w ≤ 1024) × (6 * n ≤ length (now t)) ⌝ }
-    ensures { λ _. ⌜ now (m .exit) ≡ collected w (now (t .entry)) n i (now (m .entry)) ⌝ }
+pub fn collect(m: &mut [u32], i: usize, t: &[u32], n: usize)
+    requires { ⌜ (i * words + words ≤ length (now m)) × (6 * n ≤ length (now t)) ⌝ }
+    ensures { λ _. ⌜ now (m .exit) ≡ collectOf (now (t .entry)) n i (now (m .entry)) ⌝ }
 {
     for k in 0..n {
-        let r = row_named(t, k, w);
+        let r = row_named(t, k);
         if r != 0 {
-            bits::put(m, w, i, r - 1);
+            bits::put_bit(m, WORDS, i, r - 1);
         }
     }
 }

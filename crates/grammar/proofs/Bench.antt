@@ -9,6 +9,7 @@ use Rattle.number.specs.Token.{rowsOf, tokenOf, tokenAt}
 use Rattle.number.specs.declared.token.Counts.{Counts}
 use Rattle.element.specs.Element.{bare, leads, entries, formOf}
 use Rattle.grammar.specs.Table.{entry}
+use Rattle.grammar.specs.Kinds.{rootOf}
 use Rattle.grammar.specs.Judge.{Out, fault, done, many, body, node, judge}
 use Rattle.grammar.specs.declared.Node.{Node}
 
@@ -62,5 +63,5 @@ said (r ∷ rs) = r .says ∷ said rs
 
 -- every row gives what the document says
 pub bench : found rows ≡ said rows
-unfolding judge node body many formOf entries bare leads tokenAt tokenOf rowsOf countAt countOf checkedAt checked numberAt whole value2 value4
+unfolding judge node body many formOf entries bare leads tokenAt tokenOf rowsOf countAt countOf checkedAt checked numberAt whole value2 value4 rootOf
 bench = refl

@@ -17,11 +17,11 @@ use Rattle.element.specs.Element.{within, formOf}
 use Rattle.element.specs.declared.Place.{Place}
 use Rattle.element.specs.declared.Place.the-variants as Place
 use Rattle.element.specs.declared.Form.{Form}
-use Rattle.element.specs.declared.Form.the-variants.{Refused, Leaf, Named, Variable, Wrap, Modified, Counted, Array, Instance, FnPtr, Callable, Generic}
+use Rattle.element.specs.declared.Form.the-variants.{Refused, Leaf, Named, Variable, Wrap, Modified, Counted, Array, Instance, Callable, Generic}
 use Rattle.grammar.specs.Kinds.{maxKind, rootOf}
 use Rattle.grammar.specs.Limits.{maxBytes, maxNodes, maxDepth, maxRank}
 use Rattle.grammar.specs.Table.{kindOf, SIZE, LOW}
-use Rattle.grammar.specs.Judge.{Out, fault, done, bind, check, numbered, many, bound, Reader, callable, array, body, node, known, judge, reading}
+use Rattle.grammar.specs.Judge.{Out, fault, done, bind, check, numbered, many, bound, size, low, Reader, callable, array, body, node, knownCounts, judge, reading}
 use Rattle.grammar.specs.declared.Node.{Node}
 use Rattle.grammar.proofs.Sound.{Holds, stopped, holds, holds-bind, holds-check, holds-opened}
 
@@ -32,9 +32,10 @@ Ends n at m rs = (m ≤ maxNodes) × (m ≡ n + length rs)
 ends : (n : ℕ) {at m : ℕ} {rs : List Node} → m ≤ maxNodes → m ≡ n + length rs → Holds (Ends n) (done at m rs)
 ends n j e = holds (j, e)
 
-holds-numbered : {P : ℕ → ℕ → List Node → Type 0} (o : Checked) (at : ℕ) (k : ℕ → ℕ → Out) → ((v next : ℕ) → Holds P (k v next)) → Holds P (numbered o at k)
+-- a number and what stands behind it
+pub holds-numbered : {P : ℕ → ℕ → List Node → Type 0} (o : Checked) (at : ℕ) (k : ℕ → ℕ → Out) → ((v next : ℕ) → Holds P (k v next)) → Holds P (numbered o at k)
 holds-numbered (Good v next) at k f = f v next
-holds-numbered (Bad code) at k f = stopped
+holds-numbered (Bad refusal) at k f = stopped
 
 pub ends-many : (item : ℕ → ℕ → Out) → ((at n : ℕ) → Holds (Ends n) (item at n)) → (k at n : ℕ) → n ≤ maxNodes → Holds (Ends n) (many item k at n)
 unfolding many
@@ -44,19 +45,25 @@ ends-many item f (suc k) at n j =
     (λ at₁ n₁ rs e. holds-bind (many item k at₁ n₁) _ (ends-many item f k at₁ n₁ (e .0))
     (λ at₂ n₂ ts g. ends n (g .0) (omega (arith, e, g, length-append rs ts))))
 
+pub ends-bound : (kind d : ℕ) (c : Checked) (at n : ℕ) → Holds (Ends n) (bound kind d c at n)
+ends-bound kind d c at n =
+    holds-numbered c at _
+    (λ v next. holds-check (leb 1 d) 6 at _
+    (λ e₁. holds-check (ltb n maxNodes) 10 at _ (λ e₂. ends n (omega (arith, ltb-true n maxNodes e₂)) (omega arith))))
+
 module _ (s : List ℕ) where
-  pub ends-bound : (kind d at n : ℕ) → Holds (Ends n) (bound kind d s at n)
-  ends-bound kind d at n =
-      holds-numbered (checkedAt s at) at _
-      (λ v next. holds-check (leb 1 d) 6 at _
-      (λ e₁. holds-check (ltb n maxNodes) 10 at _ (λ e₂. ends n (omega (arith, ltb-true n maxNodes e₂)) (omega arith))))
+  pub ends-size : (d at n : ℕ) → Holds (Ends n) (size d s at n)
+  ends-size d at n = ends-bound SIZE d (checkedAt s at) at n
+
+  pub ends-low : (d at n : ℕ) → Holds (Ends n) (low d s at n)
+  ends-low d at n = ends-bound LOW d (checkedAt s at) at n
 
   module _ (read : Reader) (below : (counts : Counts) (p : Place) (at n : ℕ) → Holds (Ends n) (read counts p at n)) where
-    ends-callable : (counts : Counts) (kind a b at n from : ℕ) → Holds (Ends n) (callable read s counts kind a b at n from)
-    ends-callable counts kind a b at n from =
+    ends-callable : (counts : Counts) (p : Place) (kind a b at n from : ℕ) → Holds (Ends n) (callable read s counts p kind a b at n from)
+    ends-callable counts p kind a b at n from =
         holds-numbered (checkedAt s from) from _
         (λ c next. holds-bind (read counts Place.RetType next (n + 1)) _ (below counts Place.RetType next (n + 1))
-        (λ at₁ n₁ rs e. holds-bind (many (read counts Place.Param) c at₁ n₁) _ (ends-many (read counts Place.Param) (below counts Place.Param) c at₁ n₁ (e .0))
+        (λ at₁ n₁ rs e. holds-bind (many (read counts p) c at₁ n₁) _ (ends-many (read counts p) (below counts p) c at₁ n₁ (e .0))
         (λ at₂ n₂ ts g. ends n (g .0) (omega (arith, e, g, length-append rs ts)))))
 
     pub ends-array : (d : ℕ) (counts : Counts) (kind at n : ℕ) → Holds (Ends n) (array read d s counts kind at n)
@@ -64,9 +71,9 @@ module _ (s : List ℕ) where
         holds-bind (read counts Place.Type (at + 1) (n + 1)) _ (below counts Place.Type (at + 1) (n + 1))
         (λ at₁ n₁ ts e. holds-numbered (countAt 1 maxRank s at₁) at₁ _
         (λ rank at₂. holds-numbered (countAt 0 rank s at₂) at₂ _
-        (λ sizes at₃. holds-bind (many (bound SIZE d s) sizes at₃ n₁) _ (ends-many (bound SIZE d s) (ends-bound SIZE d) sizes at₃ n₁ (e .0))
+        (λ sizes at₃. holds-bind (many (size d s) sizes at₃ n₁) _ (ends-many (size d s) (ends-size d) sizes at₃ n₁ (e .0))
         (λ at₄ n₂ ss f. holds-numbered (countAt 0 rank s at₄) at₄ _
-        (λ lows at₅. holds-bind (many (bound LOW d s) lows at₅ n₂) _ (ends-many (bound LOW d s) (ends-bound LOW d) lows at₅ n₂ (f .0))
+        (λ lows at₅. holds-bind (many (low d s) lows at₅ n₂) _ (ends-many (low d s) (ends-low d) lows at₅ n₂ (f .0))
         (λ at₆ n₃ ls g. ends n (g .0) (omega (arith, e, f, g, length-append ts (ss ++ ls), length-append ss ls))))))))
 
     ends-body : (d : ℕ) (counts : Counts) (kind b at n : ℕ) (f : Form) → at < length s → n < maxNodes → Holds (Ends n) (body read d s counts kind b at n f)
@@ -92,12 +99,9 @@ module _ (s : List ℕ) where
         (λ t at₁. holds-numbered (countAt 1 maxNumber s at₁) at₁ _
         (λ c at₂. holds-bind (many (read counts Place.Type) c at₂ (n + 1)) _ (ends-many (read counts Place.Type) (below counts Place.Type) c at₂ (n + 1) (omega arith))
         (λ at₃ n₁ rs e. ends n (e .0) (omega (arith, e)))))))
-    ends-body d counts kind b at n FnPtr l m =
-        holds-bind (read counts Place.FnPtrMethod (at + 1) (n + 1)) _ (below counts Place.FnPtrMethod (at + 1) (n + 1))
-        (λ at₁ n₁ rs e. ends n (e .0) (omega (arith, e)))
-    ends-body d counts kind b at n Callable l m = ends-callable counts kind 0 b at n (at + 1)
-    ends-body d counts kind b at n Generic l m =
-        holds-numbered (countAt 1 maxNumber s (at + 1)) (at + 1) _ (λ g next. ends-callable counts kind g b at n next)
+    ends-body d counts kind b at n (Callable p) l m = ends-callable counts p kind 0 b at n (at + 1)
+    ends-body d counts kind b at n (Generic p) l m =
+        holds-numbered (countAt 1 maxNumber s (at + 1)) (at + 1) _ (λ g next. ends-callable counts p kind g b at n next)
 
   pub ends-node : (d : ℕ) (counts : Counts) (p : Place) (at n : ℕ) → Holds (Ends n) (node d s counts p at n)
   unfolding node
@@ -110,7 +114,7 @@ pub ends-judge : (kind : ℕ) (counts : Counts) (s : List ℕ) → Holds (Ends 0
 unfolding judge
 ends-judge kind counts s =
     holds-check (leb kind maxKind) 12 0 _
-    (λ _. holds-check (known counts) 13 0 _
+    (λ _. holds-check (knownCounts counts) 13 0 _
     (λ _. holds-check (leb (length s) maxBytes) 1 0 _
     (λ _. holds-bind (node maxDepth s counts (rootOf kind) 0 0) _ (ends-node s maxDepth counts (rootOf kind) 0 0)
     (λ at n rs e. holds-check (eqb at (length s)) 9 at _ (λ _. holds e)))))
@@ -126,5 +130,5 @@ unfolding reading
 reading-enough kind counts s lent l = go (judge kind counts s) (ends-judge kind counts s)
   where
     go : (o : Out) → Holds (Ends 0) o → bind o (λ at n rs. check (leb n lent) 11 n (λ _. done at n rs)) ≡ o
-    go (fault code place) h = refl
+    go (fault code off) h = refl
     go (done at n rs) (holds h) = rw (le-leb n lent (omega (arith, h)))

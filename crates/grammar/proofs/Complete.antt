@@ -20,8 +20,8 @@ use Rattle.element.specs.declared.Place.the-variants as Place
 use Rattle.element.specs.declared.Form.{Form}
 use Rattle.grammar.specs.Limits.{maxNodes, maxRank}
 use Rattle.grammar.specs.Table.{entry, kindOf, SIZE, LOW}
-use Rattle.grammar.specs.Judge.{Out, done, bind, check, numbered, number, many, bound, Reader, callable, body, opened, node}
-use Rattle.grammar.specs.Derives.{Span, Numeral, Token, Many, none, more, Bound, bounded, Code, Call, call, Step, leaf, named, variable, wrap, modified, counted, array, inst, fnptr, method, generic, Derives}
+use Rattle.grammar.specs.Judge.{Out, done, bind, check, numbered, number, many, bound, size, low, Reader, callable, body, opened, node}
+use Rattle.grammar.specs.Derives.{Span, Numeral, Token, Many, none, more, Bound, bounded, Size, Low, Code, parameters, Call, call, Step, leaf, named, variable, wrap, modified, counted, array, inst, method, generic, Derives}
 use Rattle.grammar.specs.declared.Node.{Node}
 use Rattle.number.proofs.Laws.{encoded}
 use Rattle.number.proofs.Stands.{Stands, split, moved, stands-length}
@@ -119,24 +119,24 @@ module _ (s : List ℕ) where
       (λ h₁. bind-last (many item k at₁ n₁) _ (many-back X item f r h₁) (λ e. record { gives = refl; ends = e }))
 
   bound-back : (kind d : ℕ) {at n at′ n′ z : ℕ} {bs : List ℕ} {rs : List Node}
-      → Bound kind d at n at′ n′ bs rs → Stands s at bs z → Meets (bound kind d s at n) at′ n′ rs z
+      → Bound Numeral kind d at n at′ n′ bs rs → Stands s at bs z → Meets (bound kind d (checkedAt s at) at n) at′ n′ rs z
   bound-back kind d (bounded {n = n} l m w) h =
       number-last _ w h
       (λ e. check-pass (leb 1 d) 6 _ _ (le-leb _ _ l)
       (check-pass (ltb n maxNodes) 10 _ _ (lt-ltb _ _ m) (record { gives = refl; ends = e })))
 
-  bounds : (kind d : ℕ) → Reads (Bound kind d) (bound kind d s)
+  bounds : (kind d : ℕ) → Reads (Bound Numeral kind d) (λ at n. bound kind d (checkedAt s at) at n)
   bounds kind d = record { run = λ x h. bound-back kind d x h }
 
   -- one level: what R derives is read below, so what Step R derives is read here
   module _ (R : Counts → Place → Span) (read : Reader) (below : (counts : Counts) (p : Place) → Reads (R counts p) (read counts p)) where
-    call-back : (counts : Counts) {c at n at′ n′ z : ℕ} {bs : List ℕ} {ts : List Node} (kind g b start index : ℕ) → index + 1 ≡ n
-        → Call R counts c at n at′ n′ bs ts → Stands s at bs z
-        → Meets (callable read s counts kind g b start index at) at′ n′ (entry kind g b (c + 1) start n′ ∷ ts) z
-    call-back counts kind g b start index e (call {c} {next = next} {at₁} {n₁} {cb = cb} {bs = bs} {ps = ps} w x r) h =
+    call-back : (counts : Counts) (p : Place) {k at n at′ n′ z : ℕ} {bs : List ℕ} {ts : List Node} (kind g b start index : ℕ) → index + 1 ≡ n
+        → Call R counts p k at n at′ n′ bs ts → Stands s at bs z
+        → Meets (callable read s counts p kind g b start index at) at′ n′ (entry kind g b (k + 1) start n′ ∷ ts) z
+    call-back counts p kind g b start index e (call {c} {next = next} {at₁} {n₁} {cb = cb} {bs = bs} {ps = ps} w x (parameters r)) h =
         number-front (bs ++ ps) _ w h
         (λ h₁. rw e (bind-front bs ps (read counts Place.RetType next _) _ (λ m u. below counts Place.RetType .run x u) h₁
-        (λ h₂. bind-last (many (read counts Place.Param) c at₁ n₁) _ (many-back (R counts Place.Param) (read counts Place.Param) (below counts Place.Param) r h₂)
+        (λ h₂. bind-last (many (read counts p) c at₁ n₁) _ (many-back (R counts p) (read counts p) (below counts p) r h₂)
         (λ e₂. record { gives = refl; ends = e₂ }))))
 
     abbrev visit : ℕ → Counts → Place → ℕ → ℕ → Out
@@ -174,9 +174,9 @@ module _ (s : List ℕ) where
         (λ h₁. bind-front bs (rb ++ (sb ++ (ss ++ (lb ++ ls)))) _ _ (λ m y. below counts Place.Type .run x y) h₁
         (λ h₂. numbered-front rb (sb ++ (ss ++ (lb ++ ls))) _ _ (λ m y. at-count 1 maxRank rw₁ r₁ r₂ y) h₂
         (λ h₃. numbered-front sb (ss ++ (lb ++ ls)) _ _ (λ m y. at-count 0 rank sw zero-le l₁ y) h₃
-        (λ h₄. bind-front ss (lb ++ ls) _ _ (λ m y. many-back (Bound SIZE d) (bound SIZE d s) (bounds SIZE d) u y) h₄
+        (λ h₄. bind-front ss (lb ++ ls) _ _ (λ m y. many-back (Size d) (size d s) (bounds SIZE d) u y) h₄
         (λ h₅. numbered-front lb ls _ _ (λ m y. at-count 0 rank lw zero-le l₂ y) h₅
-        (λ h₆. bind-last _ _ (many-back (Bound LOW d) (bound LOW d s) (bounds LOW d) v h₆) (λ e. record { gives = refl; ends = e })))))))
+        (λ h₆. bind-last _ _ (many-back (Low d) (low d s) (bounds LOW d) v h₆) (λ e. record { gives = refl; ends = e })))))))
     step-back d counts (inst {at = at} {tb = tb} {cb = cb} {bs = bs} c w₁ w₂ tw k cw l r) h =
         enter d counts c refl h
         (λ h₁. check-pass _ 2 _ _ (lt-ltb _ _ (h₁ .here .0))
@@ -188,13 +188,11 @@ module _ (s : List ℕ) where
       where
         two : at + 1 + 1 ≡ at + 2
         two = omega arith
-    step-back d counts (fnptr c x) h =
-        enter d counts c refl h (λ h₁. bind-last _ _ (below counts Place.FnPtrMethod .run x h₁) (λ e. record { gives = refl; ends = e }))
-    step-back d counts (method {b = b} {at = at} {n = n} c x) h =
-        enter d counts c refl h (λ h₁. call-back counts _ 0 b at n refl x h₁)
-    step-back d counts (generic {b = b} {g = g} {at = at} {n = n} {gb = gb} {bs = bs} c w l x) h =
+    step-back d counts (method {b = b} {at = at} {n = n} {q = q} c x) h =
+        enter d counts c refl h (λ h₁. call-back counts q _ 0 b at n refl x h₁)
+    step-back d counts (generic {b = b} {g = g} {at = at} {n = n} {q = q} {gb = gb} {bs = bs} c w l x) h =
         enter d counts c refl h
-        (λ h₁. numbered-front gb bs _ _ (λ m u. at-count 1 maxNumber w l (most w) u) h₁ (λ h₂. call-back counts _ g b at n refl x h₂))
+        (λ h₁. numbered-front gb bs _ _ (λ m u. at-count 1 maxNumber w l (most w) u) h₁ (λ h₂. call-back counts q _ g b at n refl x h₂))
 
   pub node-back : (d : ℕ) (counts : Counts) (p : Place) → Reads (Derives d counts p) (node d s counts p)
   unfolding node

@@ -9,17 +9,17 @@ use lib.ListN.{length, getD, length-append}
 use lib.Seq.{getD-append-add}
 use borrow.Author.Tests.{lt-leb}
 use Rattle.number.specs.Number.{encode}
-use Rattle.number.proofs.Encoding.{encode-1}
+use Rattle.number.proofs.Encodes.{encode-1}
 use Rattle.number.specs.declared.token.Counts.{Counts}
 use Rattle.element.specs.declared.Place.{Place}
 use Rattle.element.specs.declared.Place.the-variants as Place
 use Rattle.grammar.specs.Limits.{maxNodes}
 use Rattle.grammar.specs.Table.{entry, SIZE, LOW, six, flat, recordAt}
-use Rattle.grammar.specs.Derives.{Span, Numeral, Many, none, more, Bound, bounded, call, Step, leaf, named, variable, wrap, modified, counted, array, inst, fnptr, method, generic, Derives}
-use Rattle.grammar.specs.Emit.{layoutOf, partsOf, Emitted, wrote, andThen, spell, times, parts, emit}
+use Rattle.grammar.specs.Derives.{Span, Numeral, Many, none, more, Bound, bounded, Size, Low, parameters, call, Step, leaf, named, variable, wrap, modified, counted, array, inst, method, generic, Derives}
+use Rattle.grammar.specs.Emit.{layoutOf, partsOf, Emitted, wrote, andThen, times, parts, emit}
 use Rattle.grammar.specs.declared.Node.{Node}
 use Rattle.grammar.proofs.Size.{Sizes, many-size, bound-size, derives-size}
-use Rattle.grammar.proofs.Layouts.{Fronted, leaf-front, named-front, variable-front, modified-front, inst-front, fnptr-front, counted-front, wrap-front, method-front, generic-front, array-parts}
+use Rattle.grammar.proofs.Layouts.{Fronted, leaf-front, named-front, variable-front, modified-front, inst-front, counted-front, wrap-front, method-front, generic-front, array-parts}
 
 -- ---- records in a table
 
@@ -81,29 +81,23 @@ module _ (item : ℕ → Emitted) where
   one-child n {n₁} {bs} h = rw (append-nil bs) at (next-child 0 n h (no-child n₁))
 
   next-part : (k n : ℕ) (vs : List ℕ) (ps : List (List ℕ × ℕ)) {n₁ n₂ : ℕ} {bs cs all : List ℕ}
-      → times item k n ≡ wrote bs n₁ → parts item ps n₁ ≡ wrote cs n₂ → spell vs (bs ++ cs) ≡ all → parts item ((vs, k) ∷ ps) n ≡ wrote all n₂
+      → times item k n ≡ wrote bs n₁ → parts item ps n₁ ≡ wrote cs n₂ → vs ++ (bs ++ cs) ≡ all → parts item ((vs, k) ∷ ps) n ≡ wrote all n₂
   unfolding parts
   next-part k n vs ps {n₂ = n₂} h g e = then-wrote _ _ h (then-wrote _ _ g (ap (λ (l : List ℕ). wrote l n₂) e))
 
-  last-part : (k n : ℕ) (vs : List ℕ) {n₁ : ℕ} {bs all : List ℕ} → times item k n ≡ wrote bs n₁ → spell vs bs ≡ all → parts item ((vs, k) ∷ []) n ≡ wrote all n₁
+  last-part : (k n : ℕ) (vs : List ℕ) {n₁ : ℕ} {bs all : List ℕ} → times item k n ≡ wrote bs n₁ → vs ++ bs ≡ all → parts item ((vs, k) ∷ []) n ≡ wrote all n₁
   unfolding parts
   last-part k n vs {bs = bs} h e = next-part k n vs [] h refl (rw (append-nil bs) e)
 
--- numbers spelled: a byte that is its own encoding, and a numeral
-spell-byte : {b : ℕ} (vs rest : List ℕ) {all : List ℕ} → encode b ≡ b ∷ [] → spell vs rest ≡ all → spell (b ∷ vs) rest ≡ b ∷ all
-unfolding spell
-spell-byte vs rest e h = rw (e, h)
+-- a number's bytes before the rest, and alone
+spelled : {v at z : ℕ} {vb : List ℕ} (rest : List ℕ) → Numeral v at z vb → encode v ++ rest ≡ vb ++ rest
+spelled rest w = ap (λ (l : List ℕ). l ++ rest) (sym (w .written))
 
-spell-number : {v at z : ℕ} (vs rest : List ℕ) {vb all : List ℕ} → Numeral v at z vb → spell vs rest ≡ all → spell (v ∷ vs) rest ≡ vb ++ all
-unfolding spell
-spell-number vs rest w h = rw (w .written, h)
+spelled-last : {v at z : ℕ} {vb : List ℕ} → Numeral v at z vb → encode v ++ [] ≡ vb
+spelled-last {vb = vb} w = append-nil (encode _) ∙ sym (w .written)
 
-spell-end : (rest : List ℕ) → spell [] rest ≡ rest
-unfolding spell
-spell-end rest = refl
-
-spell-last : {v at z : ℕ} {vb : List ℕ} → Numeral v at z vb → spell (v ∷ []) [] ≡ vb
-spell-last {vb = vb} w = rw (append-nil vb) at (spell-number [] [] w (spell-end []))
+spelled-two : {v a x w b y : ℕ} {vb wb : List ℕ} (rest : List ℕ) → Numeral v a x vb → Numeral w b y wb → (encode v ++ encode w) ++ rest ≡ vb ++ (wb ++ rest)
+spelled-two {vb = vb} {wb = wb} rest p q = rw (← p .written, ← q .written) (append-assoc vb wb rest)
 
 -- ---- the theorem
 
@@ -121,82 +115,79 @@ module _ (t : List ℕ) where
       next-child item _ _ (g .run l x (u .0)) (many-gives X item f g (a .most) r (u .1))
 
   from-record : (d n : ℕ) (r : Node) (e : Emitted) → n < length t / 6 → recordAt t n ≡ r
-      → parts (emit d t) (partsOf (layoutOf (r .kind)) r) (n + 1) ≡ e → emit (suc d) t n ≡ e
+      → parts (emit d t) (partsOf (layoutOf (r .kind)) t n r) (n + 1) ≡ e → emit (suc d) t n ≡ e
   unfolding emit
   from-record d n r e h g l =
       rw (lt-leb (length t / 6) n h)
-      (subst (λ (q : Node). parts (emit d t) (partsOf (layoutOf (q .kind)) q) (n + 1) ≡ e) (sym g) l)
+      (subst (λ (q : Node). parts (emit d t) (partsOf (layoutOf (q .kind)) t n q) (n + 1) ≡ e) (sym g) l)
 
-  -- a record whose byte and numbers stand before all its children
+  -- a record whose byte and other bytes stand before all its children
   front-gives : (d : ℕ) {k b x y c at z n n′ : ℕ} {vs bs all : List ℕ} → Fronted k b x y c vs
-      → n < length t / 6 → recordAt t n ≡ entry k x y c at z → times (emit d t) c (n + 1) ≡ wrote bs n′ → spell vs bs ≡ all → emit (suc d) t n ≡ wrote (b ∷ all) n′
-  front-gives d {at = at} {z = z} f i r h e =
-      from-record d _ _ _ i r (rw (f .is at z) (last-part (emit d t) _ _ _ h (spell-byte _ _ (f .code) e)))
+      → n < length t / 6 → recordAt t n ≡ entry k x y c at z → times (emit d t) c (n + 1) ≡ wrote bs n′ → vs ++ bs ≡ all → emit (suc d) t n ≡ wrote (b ∷ all) n′
+  front-gives d {b = b} {at = at} {z = z} f i r h e =
+      from-record d _ _ _ i r (rw (f .is t _ at z r) (last-part (emit d t) _ _ _ h (ap (λ (l : List ℕ). b ∷ l) e)))
 
-  bound-one : (d : ℕ) {kind at n at′ n′ : ℕ} {bs : List ℕ} {rs : List Node} → ((v after : ℕ) → partsOf (layoutOf kind) (entry kind v 0 0 at after) ≡ (v ∷ [], 0) ∷ [])
-      → Bound kind d at n at′ n′ bs rs → Listed t n rs → emit d t n ≡ wrote bs n′
+  bound-one : (d : ℕ) {kind at n at′ n′ : ℕ} {bs : List ℕ} {rs : List Node} → ((v after : ℕ) → partsOf (layoutOf kind) t n (entry kind v 0 0 at after) ≡ (encode v, 0) ∷ [])
+      → Bound Numeral kind d at n at′ n′ bs rs → Listed t n rs → emit d t n ≡ wrote bs n′
   bound-one zero f (bounded e m w) v = absurd (omega arith)
   bound-one (suc d) f (bounded {v = x} {n = n} e m w) v =
-      from-record d n _ _ (v .0) (v .1) (rw (f x (n + 1)) (last-part (emit d t) _ _ _ (no-child (emit d t) (n + 1)) (spell-last w)))
+      from-record d n _ _ (v .0) (v .1) (rw (f x (n + 1)) (last-part (emit d t) _ _ _ (no-child (emit d t) (n + 1)) (spelled-last w)))
 
-  size-gives : (d : ℕ) → Gives (Bound SIZE d) (emit d t)
+  size-gives : (d : ℕ) → Gives (Size d) (emit d t)
   unfolding layoutOf partsOf
   size-gives d = record { run = λ l x v. bound-one d (λ y z. refl) x v }
 
-  low-gives : (d : ℕ) → Gives (Bound LOW d) (emit d t)
+  low-gives : (d : ℕ) → Gives (Low d) (emit d t)
   unfolding layoutOf partsOf
   low-gives d = record { run = λ l x v. bound-one d (λ y z. refl) x v }
 
   module _ (R : Counts → Place → Span) (d : ℕ) (sizes : (counts : Counts) (p : Place) → Sizes (R counts p))
       (given : (counts : Counts) (p : Place) → Gives (R counts p) (emit d t)) where
-    call-gives : (counts : Counts) {c n next at₁ n₁ at₂ n₂ : ℕ} {bs ps : List ℕ} {rs ts : List Node} → n ≤ maxNodes
-        → R counts Place.RetType next n at₁ n₁ bs rs → Many (R counts Place.Param) c at₁ n₁ at₂ n₂ ps ts → Listed t n (rs ++ ts)
+    call-gives : (counts : Counts) (p : Place) {c n next at₁ n₁ at₂ n₂ : ℕ} {bs ps : List ℕ} {rs ts : List Node} → n ≤ maxNodes
+        → R counts Place.RetType next n at₁ n₁ bs rs → Many (R counts p) c at₁ n₁ at₂ n₂ ps ts → Listed t n (rs ++ ts)
         → times (emit d t) (c + 1) n ≡ wrote (bs ++ ps) n₂
-    call-gives counts {c} {n = n} {n₁ = n₁} {rs = rs} {ts = ts} l x r v =
+    call-gives counts p {c} {n = n} {n₁ = n₁} {rs = rs} {ts = ts} l x r v =
         let a = sizes counts Place.RetType .size l x in
         let u = listed-split t rs ts n n₁ (a .count) v in
         rw (add-one c)
         (next-child (emit d t) _ _ (given counts Place.RetType .run l x (u .0))
-        (many-gives (R counts Place.Param) (emit d t) (sizes counts Place.Param) (given counts Place.Param) (a .most) r (u .1)))
+        (many-gives (R counts p) (emit d t) (sizes counts p) (given counts p) (a .most) r (u .1)))
 
     step-gives : (counts : Counts) {p : Place} {at n at′ n′ : ℕ} {bs : List ℕ} {rs : List Node}
         → Step R d counts p at n at′ n′ bs rs → Listed t n rs → emit (suc d) t n ≡ wrote bs n′
-    step-gives counts {p} {n = n} (leaf c) v = front-gives d (leaf-front p 0 0 0 c) (v .0) (v .1) (no-child (emit d t) (n + 1)) (spell-end [])
-    step-gives counts {p} {n = n} (named {t = x} c w k) v = front-gives d (named-front p x 0 0 c) (v .0) (v .1) (no-child (emit d t) (n + 1)) (spell-last w)
-    step-gives counts {p} {n = n} (variable {v = x} c w) v = front-gives d (variable-front p x 0 0 c) (v .0) (v .1) (no-child (emit d t) (n + 1)) (spell-last w)
+    step-gives counts {p} {n = n} (leaf c) v = front-gives d (leaf-front p 0 0 0 c) (v .0) (v .1) (no-child (emit d t) (n + 1)) refl
+    step-gives counts {p} {n = n} (named {t = x} c w k) v = front-gives d (named-front p x 0 0 c) (v .0) (v .1) (no-child (emit d t) (n + 1)) (spelled-last w)
+    step-gives counts {p} {n = n} (variable {v = x} c w) v = front-gives d (variable-front p x 0 0 c) (v .0) (v .1) (no-child (emit d t) (n + 1)) (spelled-last w)
     step-gives counts {p} (wrap {q = q} {bs = bs} c x) v =
-        front-gives d (wrap-front p 0 0 1 c) (v .0) (v .1) (one-child (emit d t) _ (given counts q .run (omega (arith, c .room)) x (v .2))) (spell-end bs)
+        front-gives d (wrap-front p 0 0 1 c) (v .0) (v .1) (one-child (emit d t) _ (given counts q .run (omega (arith, c .room)) x (v .2))) refl
     step-gives counts {p} (modified {t = a} {q = q} {bs = bs} c w k x) v =
-        front-gives d (modified-front p a 0 1 c) (v .0) (v .1) (one-child (emit d t) _ (given counts q .run (omega (arith, c .room)) x (v .2)))
-        (spell-number _ _ w (spell-end bs))
+        front-gives d (modified-front p a 0 1 c) (v .0) (v .1) (one-child (emit d t) _ (given counts q .run (omega (arith, c .room)) x (v .2))) (spelled bs w)
     step-gives counts {p} (counted {c = k} {q = q} {bs = bs} c w l r) v =
         front-gives d (counted-front p 0 0 k c) (v .0) (v .1)
-        (many-gives (R counts q) (emit d t) (sizes counts q) (given counts q) (omega (arith, c .room)) r (v .2)) (spell-number _ _ w (spell-end bs))
+        (many-gives (R counts q) (emit d t) (sizes counts q) (given counts q) (omega (arith, c .room)) r (v .2)) (spelled bs w)
     step-gives counts {p} {at = at} {n = n} (array {rank = rank} {sizes = k} {lows = j} {n₁ = n₁} {n₂ = n₂} {n₃ = n₃} {bs = bs} {ss = ss} {ls = ls} {rs = rs} {ts = ts} {us = us} c x rw₁ r₁ r₂ sw l₁ u lw l₂ y) v =
-        let f = array-parts p rank k j at n₃ c in
+        let f = array-parts p t n rank k j at n₃ c in
         let a = sizes counts Place.Type .size (omega (arith, c .room)) x in
         let v₁ = listed-split t rs (ts ++ us) (n + 1) n₁ (a .count) (v .2) in
-        let b = many-size (Bound SIZE d) (bound-size SIZE d) (a .most) u in
+        let b = many-size (Size d) (bound-size Numeral SIZE d) (a .most) u in
         let v₂ = listed-split t ts us n₁ n₂ (b .count) (v₁ .1) in
         from-record d n _ _ (v .0) (v .1)
-        (rw (f .0)
+        (rw f
         (next-part (emit d t) _ _ _ _ (one-child (emit d t) _ (given counts Place.Type .run (omega (arith, c .room)) x (v₁ .0)))
-        (next-part (emit d t) _ _ _ _ (many-gives (Bound SIZE d) (emit d t) (bound-size SIZE d) (size-gives d) (a .most) u (v₂ .0))
-        (last-part (emit d t) _ _ _ (many-gives (Bound LOW d) (emit d t) (bound-size LOW d) (low-gives d) (b .most) y (v₂ .1))
-        (spell-number _ _ lw (spell-end ls)))
-        (spell-number _ _ rw₁ (spell-number _ _ sw (spell-end _))))
-        (spell-byte _ _ (f .1) (spell-end _))))
+        (next-part (emit d t) _ _ _ _ (many-gives (Size d) (emit d t) (bound-size Numeral SIZE d) (size-gives d) (a .most) u (v₂ .0))
+        (last-part (emit d t) _ _ _ (many-gives (Low d) (emit d t) (bound-size Numeral LOW d) (low-gives d) (b .most) y (v₂ .1)) (spelled ls lw))
+        (spelled-two _ rw₁ sw))
+        refl))
     step-gives counts {p} (inst {w = w} {t = a} {c = k} {bs = bs} c w₁ w₂ tw h cw l r) v =
         front-gives d (inst-front p a w k c) (v .0) (v .1)
         (many-gives (R counts Place.Type) (emit d t) (sizes counts Place.Type) (given counts Place.Type) (omega (arith, c .room)) r (v .2))
-        (spell-byte _ _ (encode-1 w (omega arith)) (spell-number _ _ tw (spell-number _ _ cw (spell-end bs))))
-    step-gives counts {p} (fnptr {bs = bs} c x) v =
-        front-gives d (fnptr-front p 0 0 1 c) (v .0) (v .1) (one-child (emit d t) _ (given counts Place.FnPtrMethod .run (omega (arith, c .room)) x (v .2))) (spell-end bs)
-    step-gives counts {p} (method c (call {c = k} w x r)) v =
-        front-gives d (method-front p k c) (v .0) (v .1) (call-gives counts (omega (arith, c .room)) x r (v .2)) (spell-number _ _ w (spell-end _))
-    step-gives counts {p} (generic {g = g} c gw l (call {c = k} w x r)) v =
-        front-gives d (generic-front p k g l c) (v .0) (v .1) (call-gives counts (omega (arith, c .room)) x r (v .2))
-        (spell-number _ _ gw (spell-number _ _ w (spell-end _)))
+        (rw (encode-1 w (omega arith))
+        (ap (λ (l : List ℕ). w ∷ l) (spelled-two bs tw cw)))
+    step-gives counts {p} (method {q = q} c (call {c = k} w x (parameters r))) v =
+        front-gives d (method-front p k c) (v .0) (v .1) (call-gives counts q (omega (arith, c .room)) x r (v .2)) (spelled _ w)
+    step-gives counts {p} (generic {g = g} {q = q} c gw l (call {c = k} w x (parameters r))) v =
+        front-gives d (generic-front p k g l c) (v .0) (v .1) (call-gives counts q (omega (arith, c .room)) x r (v .2))
+        (spelled-two _ gw w)
 
   derives-gives : (d : ℕ) (counts : Counts) (p : Place) → Gives (Derives d counts p) (emit d t)
   derives-gives zero counts p = record { run = λ l x v. absurd x }

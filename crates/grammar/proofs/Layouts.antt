@@ -3,21 +3,23 @@
 -- Assumes nothing.
 use Prim.Native.Nat.{ℕ, zero, suc, _+_, _-_, _≤_, _<_}
 use native.Mathlib.Omega.{arith}
-use mathlib.Core.Path.{_≡_, refl}
+use mathlib.Core.Path.{_≡_, refl, ap, _∙_}
 use mathlib.Core.Bool.{Bool, true, false, cond, _&&_}
-use mathlib.Core.List.{List, [], _∷_}
+use mathlib.Core.List.{List, [], _∷_, _++_}
 use lib.Dec.{ltb, eqb}
 use borrow.Author.Tests.{ltb-true, ltb-false, eqb-true, eqb-false, ne-eqb}
 use Rattle.number.specs.Number.{encode}
-use Rattle.element.specs.Element.{allowed, Entry, run, lookup, bare, leads, entries, formOf}
+use Rattle.element.specs.Element.{allowed, Entry, run, lookup, bare, leads, entries, formOf, places}
 use Rattle.element.specs.declared.Place.{Place}
 use Rattle.element.specs.declared.Place.the-variants as Place
 use Rattle.element.specs.declared.Form.{Form}
-use Rattle.element.specs.declared.Form.the-variants.{Refused, Leaf, Named, Variable, Wrap, Modified, Counted, Array, Instance, FnPtr, Callable, Generic}
+use Rattle.element.specs.declared.Form.the-variants.{Refused, Leaf, Named, Variable, Wrap, Modified, Counted, Array, Instance, Callable, Generic}
 use Rattle.element.proofs.Runs.{outside}
-use Rattle.grammar.specs.Table.{entry, kindOf, FIELD, LOCALS}
+use Rattle.element.proofs.Places.{at-place}
+use Rattle.grammar.specs.Table.{entry, kindOf, FIELD, LOCALS, recordAt}
 use Rattle.grammar.specs.Derives.{Code}
-use Rattle.grammar.specs.Emit.{Layout, plain, valued, array, instance, callable, field, locals, layoutOf, partsOf}
+use Rattle.grammar.specs.Emit.{Layout, plain, valued, array, instance, callable, field, locals, layoutOf, paramCount, partsOf}
+use Rattle.grammar.specs.declared.Node.{Node}
 use Rattle.grammar.proofs.Sound.{both-left, both-right}
 
 -- ---- no byte from 80 hex on begins a node
@@ -33,20 +35,8 @@ beyond (run first last f ∷ es) b e h =
     rw (outside first last b (λ m n. omega arith)) (beyond es b (both-right (ltb last 0x80) _ e) h)
 
 low-entries : (p : Place) → low (entries p) ≡ true
-unfolding entries bare leads
-low-entries Place.Type = refl
-low-entries Place.Pointee = refl
-low-entries Place.Param = refl
-low-entries Place.RetType = refl
-low-entries Place.Local = refl
-low-entries Place.Pinned = refl
-low-entries Place.TypeSpec = refl
-low-entries Place.ModifiedSpec = refl
-low-entries Place.FnPtrMethod = refl
-low-entries Place.FieldSig = refl
-low-entries Place.LocalVarSig = refl
-low-entries Place.PropertySig = refl
-low-entries Place.MethodDefSig = refl
+unfolding entries bare leads places
+low-entries p = at-place (λ q. low (entries q)) (λ q. true) refl p
 
 small-code : (p : Place) (b : ℕ) → allowed (formOf p b) ≡ true → b < 0x80
 unfolding formOf
@@ -81,29 +71,16 @@ due (Modified p) k b = seen valued b b (b ∷ [])
 due (Counted p) k b = seen locals LOCALS 0x07 (0x07 ∷ [])
 due Array k b = seen array b b (b ∷ [])
 due Instance k b = seen instance b b (b ∷ [])
-due FnPtr k b = seen plain b b (b ∷ [])
-due Callable k b = seen callable k b (b ∷ [])
-due Generic k b = seen callable k b (b ∷ [])
+due (Callable p) k b = seen callable k b (b ∷ [])
+due (Generic p) k b = seen callable k b (b ∷ [])
 
 abbrev listed : ℕ → (ℕ → Seen) → List Seen
 listed zero f = []
 listed (suc n) f = f n ∷ listed n f
 
 agrees : (p : Place) → listed 0x80 (given p) ≡ listed 0x80 (λ b. due (formOf p b) (kindOf p b) b)
-unfolding formOf entries bare leads layoutOf encode
-agrees Place.Type = refl
-agrees Place.Pointee = refl
-agrees Place.Param = refl
-agrees Place.RetType = refl
-agrees Place.Local = refl
-agrees Place.Pinned = refl
-agrees Place.TypeSpec = refl
-agrees Place.ModifiedSpec = refl
-agrees Place.FnPtrMethod = refl
-agrees Place.FieldSig = refl
-agrees Place.LocalVarSig = refl
-agrees Place.PropertySig = refl
-agrees Place.MethodDefSig = refl
+unfolding formOf entries bare leads places layoutOf encode
+agrees p = at-place (λ q. listed 0x80 (given q)) (λ q. listed 0x80 (λ b. due (formOf q b) (kindOf q b) b)) refl p
 
 pointwise : (k : ℕ) (f g : ℕ → Seen) → listed k f ≡ listed k g → (b : ℕ) → b < k → f b ≡ g b
 pointwise zero f g e b h = absurd (omega arith)
@@ -121,10 +98,9 @@ pointwise (suc k) f g e b h = go (eqb b k) refl (λ l. pointwise k f g tails b l
 
 -- ---- what stands in the blob for a record, by the form of its code byte
 
--- the byte b, the numbers vs, then all children
+-- the byte b, the bytes vs, then all children
 pub record Fronted (k b x y c : ℕ) (vs : List ℕ) : Type 0 where
-  pub is : (at z : ℕ) → partsOf (layoutOf k) (entry k x y c at z) ≡ (b ∷ vs, c) ∷ []
-  pub code : encode b ≡ b ∷ []
+  pub is : (t : List ℕ) (n at z : ℕ) → recordAt t n ≡ entry k x y c at z → partsOf (layoutOf k) t n (entry k x y c at z) ≡ (b ∷ vs, c) ∷ []
 
 module _ (p : Place) {b n : ℕ} where
   laid : {f : Form} → Code p b n f → allowed f ≡ true → seen (layoutOf (kindOf p b)) (kindOf p b) b (encode b) ≡ due f (kindOf p b) b
@@ -133,47 +109,43 @@ module _ (p : Place) {b n : ℕ} where
       let e = pointwise 0x80 (given p) (λ x. due (formOf p x) (kindOf p x) x) (agrees p) b h in
       rw (c .form, a) at e
 
--- a layout whose first number is the kind, which is the byte
+-- a layout whose first byte is the kind
 module _ {k b : ℕ} (l : Layout) (e : seen (layoutOf k) k b (encode b) ≡ seen l b b (b ∷ [])) where
-  own : (x y c : ℕ) (vs : List ℕ) → ((at z : ℕ) → partsOf l (entry b x y c at z) ≡ (b ∷ vs, c) ∷ []) → Fronted k b x y c vs
+  own : (x y c : ℕ) (vs : List ℕ) → (encode b ≡ b ∷ [] → (t : List ℕ) (n at z : ℕ) → partsOf l t n (entry b x y c at z) ≡ (b ∷ vs, c) ∷ []) → Fronted k b x y c vs
   own x y c vs h =
       let e₁ : layoutOf k ≡ l = cc in
       let e₂ : k ≡ b = cc in
-      record { is = λ at z. rw (e₁, e₂) (h at z); code = cc }
+      let e₃ : encode b ≡ b ∷ [] = cc in
+      record { is = λ t n at z q. rw (e₁, e₂) (h e₃ t n at z) }
 
 module _ (p : Place) {b n : ℕ} (x y c : ℕ) where
   pub leaf-front : Code p b n Leaf → Fronted (kindOf p b) b x y c []
   unfolding partsOf
-  leaf-front w = own plain (laid p w refl) x y c [] (λ at z. refl)
+  leaf-front w = own plain (laid p w refl) x y c [] (λ q t m at z. rw q)
 
-  pub named-front : Code p b n Named → Fronted (kindOf p b) b x y c (x ∷ [])
+  pub named-front : Code p b n Named → Fronted (kindOf p b) b x y c (encode x)
   unfolding partsOf
-  named-front w = own valued (laid p w refl) x y c (x ∷ []) (λ at z. refl)
+  named-front w = own valued (laid p w refl) x y c (encode x) (λ q t m at z. rw q)
 
-  pub variable-front : Code p b n Variable → Fronted (kindOf p b) b x y c (x ∷ [])
+  pub variable-front : Code p b n Variable → Fronted (kindOf p b) b x y c (encode x)
   unfolding partsOf
-  variable-front w = own valued (laid p w refl) x y c (x ∷ []) (λ at z. refl)
+  variable-front w = own valued (laid p w refl) x y c (encode x) (λ q t m at z. rw q)
 
-  pub modified-front : {q : Place} → Code p b n (Modified q) → Fronted (kindOf p b) b x y c (x ∷ [])
+  pub modified-front : {q : Place} → Code p b n (Modified q) → Fronted (kindOf p b) b x y c (encode x)
   unfolding partsOf
-  modified-front w = own valued (laid p w refl) x y c (x ∷ []) (λ at z. refl)
+  modified-front w = own valued (laid p w refl) x y c (encode x) (λ q t m at z. rw q)
 
-  pub inst-front : Code p b n Instance → Fronted (kindOf p b) b x y c (y ∷ x ∷ c ∷ [])
+  pub inst-front : Code p b n Instance → Fronted (kindOf p b) b x y c (encode y ++ (encode x ++ encode c))
   unfolding partsOf
-  inst-front w = own instance (laid p w refl) x y c (y ∷ x ∷ c ∷ []) (λ at z. refl)
+  inst-front w = own instance (laid p w refl) x y c (encode y ++ (encode x ++ encode c)) (λ q t m at z. rw q)
 
-  pub fnptr-front : Code p b n FnPtr → Fronted (kindOf p b) b x y c []
-  unfolding partsOf
-  fnptr-front w = own plain (laid p w refl) x y c [] (λ at z. refl)
-
-  pub counted-front : {q : Place} → Code p b n (Counted q) → Fronted (kindOf p b) b x y c (c ∷ [])
+  pub counted-front : {q : Place} → Code p b n (Counted q) → Fronted (kindOf p b) b x y c (encode c)
   unfolding partsOf
   counted-front w =
       let e = laid p w refl in
       let e₁ : layoutOf (kindOf p b) ≡ locals = cc in
       let e₂ : b ≡ 0x07 = cc in
-      let e₃ : encode b ≡ 0x07 ∷ [] = cc in
-      record { is = λ at z. rw (e₁, e₂); code = rw (← e₂) at e₃ }
+      record { is = λ t m at z q. rw (e₁, e₂) }
 
   -- FIELD, or a wrapper whose kind is its byte
   pub wrap-front : {q : Place} → Code p b n (Wrap q) → Fronted (kindOf p b) b x y c []
@@ -185,35 +157,39 @@ module _ (p : Place) {b n : ℕ} (x y c : ℕ) where
       go true e =
           let e₁ : layoutOf (kindOf p b) ≡ field = cc in
           let e₂ : b ≡ 0x06 = cc in
-          let e₃ : encode b ≡ 0x06 ∷ [] = cc in
-          record { is = λ at z. rw (e₁, e₂); code = rw (← e₂) at e₃ }
-      go false e = own plain e x y c [] (λ at z. refl)
+          record { is = λ t m at z q. rw (e₁, e₂) }
+      go false e = own plain e x y c [] (λ q t m at z. rw q)
+
+-- a method with c parameters
+params-of : (c : ℕ) (t : List ℕ) (m k a b at z : ℕ) → recordAt t m ≡ entry k a b (c + 1) at z → paramCount t m ≡ c
+params-of c t m k a b at z q = let e : c + 1 - 1 ≡ c = omega arith in ap (λ (r : Node). r .children - 1) q ∙ e
 
 module _ (p : Place) {b n : ℕ} (c : ℕ) where
-  pub method-front : Code p b n Callable → Fronted (kindOf p b) b 0 b (c + 1) (c ∷ [])
+  pub method-front : {q : Place} → Code p b n (Callable q) → Fronted (kindOf p b) b 0 b (c + 1) (encode c)
   unfolding partsOf
   method-front w =
       let e = laid p w refl in
       let e₁ : layoutOf (kindOf p b) ≡ callable = cc in
-      let m : c + 1 - 1 ≡ c = omega arith in
-      record { is = λ at z. rw (e₁, m); code = cc }
+      let e₂ : encode b ≡ b ∷ [] = cc in
+      record { is = λ t m at z q. rw (e₁, e₂, params-of c t m (kindOf p b) 0 b at z q) }
 
-  pub generic-front : (g : ℕ) → 1 ≤ g → Code p b n Generic → Fronted (kindOf p b) b g b (c + 1) (g ∷ c ∷ [])
+  pub generic-front : {q : Place} (g : ℕ) → 1 ≤ g → Code p b n (Generic q) → Fronted (kindOf p b) b g b (c + 1) (encode g ++ encode c)
   unfolding partsOf
   generic-front g l w =
       let e = laid p w refl in
       let e₁ : layoutOf (kindOf p b) ≡ callable = cc in
-      let m : c + 1 - 1 ≡ c = omega arith in
-      record { is = λ at z. rw (e₁, m, ne-eqb g 0 (λ q. omega arith)); code = cc }
+      let e₂ : encode b ≡ b ∷ [] = cc in
+      record { is = λ t m at z q. rw (e₁, e₂, params-of c t m (kindOf p b) g b at z q, ne-eqb g 0 (λ q. omega arith)) }
 
 -- an ARRAY: its byte and its type, Rank and NumSizes and the SIZEs, NumLoBounds and the LOWs
-pub array-parts : (p : Place) {b n : ℕ} (rank sizes lows at z : ℕ) → Code p b n Array
-    → (partsOf (layoutOf (kindOf p b)) (entry (kindOf p b) rank sizes (1 + sizes + lows) at z)
-    ≡ (b ∷ [], 1) ∷ (rank ∷ sizes ∷ [], sizes) ∷ (lows ∷ [], lows) ∷ []) × (encode b ≡ b ∷ [])
+pub array-parts : (p : Place) {b n : ℕ} (t : List ℕ) (m rank sizes lows at z : ℕ) → Code p b n Array
+    → partsOf (layoutOf (kindOf p b)) t m (entry (kindOf p b) rank sizes (1 + sizes + lows) at z)
+    ≡ (b ∷ [], 1) ∷ (encode rank ++ encode sizes, sizes) ∷ (encode lows, lows) ∷ []
 unfolding partsOf
-array-parts p {b} rank sizes lows at z w =
+array-parts p {b} t m rank sizes lows at z w =
     let e = laid p w refl in
     let e₁ : layoutOf (kindOf p b) ≡ array = cc in
     let e₂ : kindOf p b ≡ b = cc in
-    let m : 1 + sizes + lows - 1 - sizes ≡ lows = omega arith in
-    (rw (e₁, e₂, m), cc)
+    let e₃ : encode b ≡ b ∷ [] = cc in
+    let q : 1 + sizes + lows - 1 - sizes ≡ lows = omega arith in
+    rw (e₁, e₂, e₃, q)

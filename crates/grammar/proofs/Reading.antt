@@ -15,7 +15,7 @@ use Rattle.number.proofs.Stands.{all-of, whole}
 use Rattle.grammar.specs.Kinds.{maxKind, rootOf}
 use Rattle.grammar.specs.Limits.{maxBytes, maxRows, maxDepth}
 use Rattle.grammar.specs.Table.{flat}
-use Rattle.grammar.specs.Judge.{fault, done, check, node, known, judge, reading}
+use Rattle.grammar.specs.Judge.{fault, done, check, node, knownCounts, judge, reading}
 use Rattle.grammar.specs.Derives.{Derives, Signature}
 use Rattle.grammar.specs.Emit.{wrote, emitted}
 use Rattle.grammar.specs.declared.Node.{Node}
@@ -29,7 +29,7 @@ module _ (kind : ℕ) (counts : Counts) (s : List ℕ) where
   unfolding judge
   holds-judge bytes =
       holds-check (leb kind maxKind) 12 0 _
-      (λ e₁. holds-check (known counts) 13 0 _
+      (λ e₁. holds-check (knownCounts counts) 13 0 _
       (λ e₂. holds-check (leb (length s) maxBytes) 1 0 _
       (λ e₃. holds-bind (node maxDepth s counts (rootOf kind) 0 0) _ (holds-node s bytes maxDepth counts (rootOf kind) 0 0)
       (λ a n rs r. holds-check (eqb a (length s)) 9 a _
@@ -60,7 +60,7 @@ module _ (kind : ℕ) (counts : Counts) (s : List ℕ) where
   derivable n rs g =
       let m : Meets (judge kind counts s) (length s) n rs (length s) =
       check-pass (leb kind maxKind) 12 0 _ (le-leb _ _ (g .known-kind))
-      (check-pass (known counts) 13 0 _ (both _ _ (both _ _ (le-leb _ _ (g .defs)) (le-leb _ _ (g .refs))) (le-leb _ _ (g .specs)))
+      (check-pass (knownCounts counts) 13 0 _ (both _ _ (both _ _ (le-leb _ _ (g .defs)) (le-leb _ _ (g .refs))) (le-leb _ _ (g .specs)))
       (check-pass (leb (length s) maxBytes) 1 0 _ (le-leb _ _ (g .short))
       (bind-last (node maxDepth s counts (rootOf kind) 0 0) (λ a k ts. check (eqb a (length s)) 9 a (λ _. done a k ts))
       (node-back s maxDepth counts (rootOf kind) .run (g .derived) (whole s))

@@ -10,7 +10,7 @@ use Rattle.element.specs.declared.Place.{Place}
 use Rattle.element.specs.declared.Place.the-variants as Place
 use Rattle.grammar.specs.Limits.{maxNodes}
 use Rattle.grammar.specs.Table.{SIZE, LOW}
-use Rattle.grammar.specs.Derives.{Span, Many, none, more, Bound, bounded, Call, call, Step, leaf, named, variable, wrap, modified, counted, array, inst, fnptr, method, generic, Derives}
+use Rattle.grammar.specs.Derives.{Span, Numeral, Many, none, more, Bound, bounded, Size, Low, parameters, Call, call, Step, leaf, named, variable, wrap, modified, counted, array, inst, method, generic, Derives}
 use Rattle.grammar.specs.declared.Node.{Node}
 
 -- as many records as indices, and no more than the limit
@@ -28,17 +28,17 @@ many-size X f l (more {rs = rs} {ts = ts} x r) =
     let b = many-size X f (a .most) r in
     record { count = omega (arith, length-append rs ts); most = b .most }
 
-pub bound-size : (kind d : ℕ) → Sizes (Bound kind d)
-bound-size kind d = record { size = λ l x. one x }
+pub bound-size : (W : (v at next : ℕ) → List ℕ → Type 0) (kind d : ℕ) → Sizes (Bound W kind d)
+bound-size W kind d = record { size = λ l x. one x }
   where
-    one : {at n at′ n′ : ℕ} {bs : List ℕ} {rs : List Node} → Bound kind d at n at′ n′ bs rs → Sized n n′ rs
+    one : {at n at′ n′ : ℕ} {bs : List ℕ} {rs : List Node} → Bound W kind d at n at′ n′ bs rs → Sized n n′ rs
     one (bounded e m w) = record { count = omega arith; most = omega arith }
 
 module _ (R : Counts → Place → Span) (below : (counts : Counts) (p : Place) → Sizes (R counts p)) where
-  pub call-size : (counts : Counts) {c at n at′ n′ : ℕ} {bs : List ℕ} {rs : List Node} → n ≤ maxNodes → Call R counts c at n at′ n′ bs rs → Sized n n′ rs
-  call-size counts l (call {rs = rs} {ts = ts} w x r) =
+  pub call-size : (counts : Counts) (p : Place) {k at n at′ n′ : ℕ} {bs : List ℕ} {rs : List Node} → n ≤ maxNodes → Call R counts p k at n at′ n′ bs rs → Sized n n′ rs
+  call-size counts p l (call {rs = rs} {ts = ts} w x (parameters r)) =
       let a = below counts Place.RetType .size l x in
-      let b = many-size (R counts Place.Param) (below counts Place.Param) (a .most) r in
+      let b = many-size (R counts p) (below counts p) (a .most) r in
       record { count = omega (arith, length-append rs ts); most = b .most }
 
   -- a node with what is below it
@@ -54,13 +54,12 @@ module _ (R : Counts → Place → Span) (below : (counts : Counts) (p : Place) 
   step-size d counts (counted {q = q} c w l r) = over (many-size (R counts q) (below counts q) (omega (arith, c .room)) r)
   step-size d counts (array {rs = rs} {ts = ts} {us = us} c x rw₁ r₁ r₂ sw l₁ u lw l₂ v) =
       let a = below counts Place.Type .size (omega (arith, c .room)) x in
-      let b = many-size (Bound SIZE d) (bound-size SIZE d) (a .most) u in
-      let e = many-size (Bound LOW d) (bound-size LOW d) (b .most) v in
+      let b = many-size (Size d) (bound-size Numeral SIZE d) (a .most) u in
+      let e = many-size (Low d) (bound-size Numeral LOW d) (b .most) v in
       over (record { count = omega (arith, length-append rs (ts ++ us), length-append ts us); most = e .most })
   step-size d counts (inst c w₁ w₂ tw k cw l r) = over (many-size (R counts Place.Type) (below counts Place.Type) (omega (arith, c .room)) r)
-  step-size d counts (fnptr c x) = over (below counts Place.FnPtrMethod .size (omega (arith, c .room)) x)
-  step-size d counts (method c x) = over (call-size counts (omega (arith, c .room)) x)
-  step-size d counts (generic c w l x) = over (call-size counts (omega (arith, c .room)) x)
+  step-size d counts (method {q = q} c x) = over (call-size counts q (omega (arith, c .room)) x)
+  step-size d counts (generic {q = q} c w l x) = over (call-size counts q (omega (arith, c .room)) x)
 
 pub derives-size : (d : ℕ) (counts : Counts) (p : Place) → Sizes (Derives d counts p)
 derives-size zero counts p = record { size = λ l x. absurd x }

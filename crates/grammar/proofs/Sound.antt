@@ -20,11 +20,11 @@ use Rattle.element.specs.Element.{allowed, within, formOf}
 use Rattle.element.specs.declared.Place.{Place}
 use Rattle.element.specs.declared.Place.the-variants as Place
 use Rattle.element.specs.declared.Form.{Form}
-use Rattle.element.specs.declared.Form.the-variants.{Refused, Leaf, Named, Variable, Wrap, Modified, Counted, Array, Instance, FnPtr, Callable, Generic}
+use Rattle.element.specs.declared.Form.the-variants.{Refused, Leaf, Named, Variable, Wrap, Modified, Counted, Array, Instance, Callable, Generic}
 use Rattle.grammar.specs.Limits.{maxNodes, maxRank}
 use Rattle.grammar.specs.Table.{entry, kindOf, SIZE, LOW}
-use Rattle.grammar.specs.Judge.{Out, fault, done, bind, check, numbered, number, count, token, many, bound, Reader, callable, body, opened, node}
-use Rattle.grammar.specs.Derives.{Span, Numeral, Token, Many, none, more, Bound, bounded, Call, call, Step, leaf, named, variable, wrap, modified, counted, array, inst, fnptr, method, generic, Derives}
+use Rattle.grammar.specs.Judge.{Out, fault, done, bind, check, numbered, number, count, token, many, bound, size, low, Reader, callable, body, opened, node}
+use Rattle.grammar.specs.Derives.{Span, Numeral, Token, Many, none, more, Bound, bounded, Size, Low, parameters, Call, call, Step, leaf, named, variable, wrap, modified, counted, array, inst, method, generic, Derives}
 use Rattle.grammar.specs.declared.Node.{Node}
 use Rattle.number.proofs.Laws.{decoded}
 use Rattle.number.proofs.Stands.{Stands, nothing, byte, join, moved, stands-length}
@@ -154,7 +154,7 @@ module _ (s : List ℕ) (bytes : Bytes s) where
       (λ at₁ n₁ rs q. holds-bind (many item k at₁ n₁) _ (holds-many X item g k at₁ n₁)
       (λ at₂ n₂ ts r. holds (q .0 ++ r .0, more (q .1) (r .1), join (q .2) (r .2))))
 
-  holds-bound : (kind d at n : ℕ) → Holds (Found (Bound kind d) at n) (bound kind d s at n)
+  holds-bound : (kind d at n : ℕ) → Holds (Found (Bound Numeral kind d) at n) (bound kind d (checkedAt s at) at n)
   holds-bound kind d at n =
       holds-number at _
       (λ v z bs w h. holds-check (leb 1 d) 6 at _
@@ -163,15 +163,15 @@ module _ (s : List ℕ) (bytes : Bytes s) where
 
   -- one level: what stands below is derived by R, so the node is derived by Step R
   module _ (R : Counts → Place → Span) (read : Reader) (below : (counts : Counts) (p : Place) (at n : ℕ) → Holds (Found (R counts p) at n) (read counts p at n)) where
-    holds-callable : (counts : Counts) (kind g b at n from : ℕ)
-        → Holds (λ at′ n′ rs. (c : ℕ) × (ts : List Node) × (rs ≡ entry kind g b (c + 1) at n′ ∷ ts) × Found (Call R counts c) from (n + 1) at′ n′ ts)
-        (callable read s counts kind g b at n from)
-    holds-callable counts kind g b at n from =
+    holds-callable : (counts : Counts) (p : Place) (kind g b at n from : ℕ)
+        → Holds (λ at′ n′ rs. (k : ℕ) × (ts : List Node) × (rs ≡ entry kind g b (k + 1) at n′ ∷ ts) × Found (Call R counts p k) from (n + 1) at′ n′ ts)
+        (callable read s counts p kind g b at n from)
+    holds-callable counts p kind g b at n from =
         holds-number from _
         (λ c z cb w h. holds-bind (read counts Place.RetType z (n + 1)) _ (below counts Place.RetType z (n + 1))
-        (λ at₁ n₁ rs q. holds-bind (many (read counts Place.Param) c at₁ n₁) _ (holds-many (R counts Place.Param) (read counts Place.Param) (below counts Place.Param) c at₁ n₁)
+        (λ at₁ n₁ rs q. holds-bind (many (read counts p) c at₁ n₁) _ (holds-many (R counts p) (read counts p) (below counts p) c at₁ n₁)
         (λ at₂ n₂ ts r. holds
-        (c, rs ++ ts, refl, (cb ++ (q .0 ++ r .0), call w (q .1) (r .1), join h (join (q .2) (r .2)))))))
+        (c, rs ++ ts, refl, (cb ++ (q .0 ++ r .0), call w (q .1) (parameters (r .1)), join h (join (q .2) (r .2)))))))
 
     holds-body : (d : ℕ) (counts : Counts) (p : Place) (b at n : ℕ) → at < length s → getD s at 0 ≡ b → n < maxNodes
         → (f : Form) → formOf p b ≡ f → Holds (Found (Step R d counts p) at n) (body read d s counts (kindOf p b) b at n f)
@@ -199,9 +199,9 @@ module _ (s : List ℕ) (bytes : Bytes s) where
         holds-bind (read counts Place.Type (at + 1) (n + 1)) _ (below counts Place.Type (at + 1) (n + 1))
         (λ at₁ n₁ rs q. holds-count 1 maxRank at₁ _
         (λ rank at₂ rb rw₁ e₁ rh. holds-count 0 rank at₂ _
-        (λ sizes at₃ sb sw e₂ sh. holds-bind (many (bound SIZE d s) sizes at₃ n₁) _ (holds-many (Bound SIZE d) (bound SIZE d s) (holds-bound SIZE d) sizes at₃ n₁)
+        (λ sizes at₃ sb sw e₂ sh. holds-bind (many (size d s) sizes at₃ n₁) _ (holds-many (Size d) (size d s) (holds-bound SIZE d) sizes at₃ n₁)
         (λ at₄ n₂ ss u. holds-count 0 rank at₄ _
-        (λ lows at₅ lb lw e₃ lh. holds-bind (many (bound LOW d s) lows at₅ n₂) _ (holds-many (Bound LOW d) (bound LOW d s) (holds-bound LOW d) lows at₅ n₂)
+        (λ lows at₅ lb lw e₃ lh. holds-bind (many (low d s) lows at₅ n₂) _ (holds-many (Low d) (low d s) (holds-bound LOW d) lows at₅ n₂)
         (λ at₆ n₃ ls v. holds (
           b ∷ (q .0 ++ (rb ++ (sb ++ (u .0 ++ (lb ++ v .0))))),
           array (record { form = e; room = room }) (q .1)
@@ -223,15 +223,12 @@ module _ (s : List ℕ) (bytes : Bytes s) where
       where
         two : at + 2 ≡ at + 1 + 1
         two = omega arith
-    holds-body d counts p b at n l eb room FnPtr e =
-        holds-bind (read counts Place.FnPtrMethod (at + 1) (n + 1)) _ (below counts Place.FnPtrMethod (at + 1) (n + 1))
-        (λ at₁ n₁ rs r. holds (b ∷ r .0, fnptr (record { form = e; room = room }) (r .1), byte l eb (r .2)))
-    holds-body d counts p b at n l eb room Callable e =
-        holds-map (holds-callable counts (kindOf p b) 0 b at n (at + 1))
+    holds-body d counts p b at n l eb room (Callable q) e =
+        holds-map (holds-callable counts q (kindOf p b) 0 b at n (at + 1))
         (λ at′ n′ rs r. rw (r .2) (b ∷ r .3 .0, method (record { form = e; room = room }) (r .3 .1), byte l eb (r .3 .2)))
-    holds-body d counts p b at n l eb room Generic e =
+    holds-body d counts p b at n l eb room (Generic q) e =
         holds-count 1 maxNumber (at + 1) _
-        (λ g z gb w e₁ h. holds-map (holds-callable counts (kindOf p b) g b at n z)
+        (λ g z gb w e₁ h. holds-map (holds-callable counts q (kindOf p b) g b at n z)
         (λ at′ n′ rs r. rw (r .2)
         (b ∷ (gb ++ r .3 .0), generic (record { form = e; room = room }) w (e₁ .0) (r .3 .1), byte l eb (join h (r .3 .2)))))
 

@@ -4,7 +4,7 @@ use Prim.Native.Nat.{ℕ, zero, suc, _+_, _/_, _≤_, _<_}
 use native.Mathlib.Omega.{arith}
 use mathlib.Core.Path.{_≡_, refl}
 use mathlib.Core.Bool.{Bool, true, false, cond}
-use mathlib.Core.List.{List, [], _∷_}
+use mathlib.Core.List.{List, [], _∷_, _++_}
 use lib.ListN.{length}
 use lib.Dec.{leb, eqb}
 use borrow.Author.Tests.{leb-true, leb-false, le-leb, eqb-true, eq-eqb}
@@ -14,10 +14,11 @@ use Rattle.number.proofs.Laws.{encode-bytes, bytes-append}
 use Rattle.grammar.specs.Kinds.{maxKind}
 use Rattle.grammar.specs.Limits.{maxDepth}
 use Rattle.grammar.specs.Table.{flat, recordAt}
-use Rattle.grammar.specs.Judge.{Out, fault, done, known, judge}
+use Rattle.grammar.specs.declared.Node.{Node}
+use Rattle.grammar.specs.Judge.{Out, fault, done, knownCounts, judge}
 use Rattle.grammar.specs.Derives.{HasTable}
-use Rattle.grammar.specs.Emit.{layoutOf, partsOf, Emitted, torn, wrote, andThen, spell, times, parts, emit, emitted}
-use Rattle.grammar.specs.Writer.{same, isTable, Written, refused, written, fitted, confirmed, writing}
+use Rattle.grammar.specs.Emit.{Layout, plain, valued, array, instance, callable, field, locals, size, low, layoutOf, lowsOf, paramCount, partsOf, Emitted, torn, wrote, andThen, times, parts, emit, emitted}
+use Rattle.grammar.specs.Writer.{sameNumbers, hasTable, Written, refused, written, fitted, confirmed, writing}
 use Rattle.grammar.proofs.Sound.{both-left, both-right}
 use Rattle.grammar.proofs.Complete.{both}
 use Rattle.grammar.proofs.Reading.{accepted, derivable, emitted-back}
@@ -40,10 +41,33 @@ bytes-wrote bs n h = h
 no-bytes : Bytes []
 no-bytes i = omega arith
 
-bytes-spell : (vs rest : List ℕ) → Bytes rest → Bytes (spell vs rest)
-unfolding spell
-bytes-spell [] rest h = h
-bytes-spell (v ∷ vs) rest h = bytes-append (encode v) (spell vs rest) (encode-bytes v) (bytes-spell vs rest h)
+-- two numbers, and those before something
+bytes-two : (x y : ℕ) → Bytes (encode x ++ encode y)
+bytes-two x y = bytes-append (encode x) (encode y) (encode-bytes x) (encode-bytes y)
+
+bytes-front : (x : ℕ) (bs : List ℕ) → Bytes bs → Bytes (encode x ++ bs)
+bytes-front x bs h = bytes-append (encode x) bs (encode-bytes x) h
+
+-- what stands before children
+unfoldable Fronts : List (List ℕ × ℕ) → Type 0
+Fronts [] = Unit {0}
+Fronts (p ∷ ps) = Bytes (p .0) × Fronts ps
+
+bytes-fronts : (l : Layout) (t : List ℕ) (n : ℕ) (r : Node) → Fronts (partsOf l t n r)
+unfolding partsOf Fronts encode
+bytes-fronts plain t n r = (encode-bytes (r .kind), tt)
+bytes-fronts valued t n r = (bytes-two (r .kind) (r .a), tt)
+bytes-fronts array t n r = (encode-bytes (r .kind), (bytes-two (r .a) (r .b), (encode-bytes (lowsOf r), tt)))
+bytes-fronts instance t n r = (bytes-front (r .kind) _ (bytes-front (r .b) _ (bytes-two (r .a) (r .children))), tt)
+bytes-fronts callable t n r = (bytes-front (r .b) _ (bytes-append (cond (eqb (r .a) 0) [] (encode (r .a))) (encode (paramCount t n)) (generic (eqb (r .a) 0)) (encode-bytes (paramCount t n))), tt)
+  where
+    generic : (u : Bool) → Bytes (cond u [] (encode (r .a)))
+    generic true = no-bytes
+    generic false = encode-bytes (r .a)
+bytes-fronts field t n r = (encode-bytes 0x06, tt)
+bytes-fronts locals t n r = (bytes-two 0x07 (r .children), tt)
+bytes-fronts size t n r = (encode-bytes (r .a), tt)
+bytes-fronts low t n r = (encode-bytes (r .a), tt)
 
 module _ (item : ℕ → Emitted) (f : (n : ℕ) → AreBytes (item n)) where
   bytes-times : (k n : ℕ) → AreBytes (times item k n)
@@ -53,19 +77,20 @@ module _ (item : ℕ → Emitted) (f : (n : ℕ) → AreBytes (item n)) where
       bytes-then (item n) _ (f n)
       (λ bs n₁ h. bytes-then (times item k n₁) _ (bytes-times k n₁) (λ cs n₂ g. bytes-wrote _ _ (bytes-append bs cs h g)))
 
-  bytes-parts : (ps : List (List ℕ × ℕ)) (n : ℕ) → AreBytes (parts item ps n)
-  unfolding parts
-  bytes-parts [] n = bytes-wrote [] n no-bytes
-  bytes-parts (p ∷ ps) n =
+  bytes-parts : (ps : List (List ℕ × ℕ)) (n : ℕ) → Fronts ps → AreBytes (parts item ps n)
+  unfolding parts Fronts
+  bytes-parts [] n q = bytes-wrote [] n no-bytes
+  bytes-parts (p ∷ ps) n q =
       bytes-then (times item (p .1) n) _ (bytes-times (p .1) n)
-      (λ bs n₁ h. bytes-then (parts item ps n₁) _ (bytes-parts ps n₁)
-      (λ cs n₂ g. bytes-wrote _ _ (bytes-spell (p .0) _ (bytes-append bs cs h g))))
+      (λ bs n₁ h. bytes-then (parts item ps n₁) _ (bytes-parts ps n₁ (q .1))
+      (λ cs n₂ g. bytes-wrote _ _ (bytes-append (p .0) _ (q .0) (bytes-append bs cs h g))))
 
 bytes-emit : (d : ℕ) (t : List ℕ) (n : ℕ) → AreBytes (emit d t n)
 unfolding emit AreBytes
 bytes-emit zero t n = tt
 bytes-emit (suc d) t n =
-    go _ (leb (length t / 6) n) (bytes-parts (emit d t) (bytes-emit d t) (partsOf (layoutOf (recordAt t n .kind)) (recordAt t n)) (n + 1))
+    go _ (leb (length t / 6) n)
+    (bytes-parts (emit d t) (bytes-emit d t) (partsOf (layoutOf (recordAt t n .kind)) t n (recordAt t n)) (n + 1) (bytes-fronts (layoutOf (recordAt t n .kind)) t n (recordAt t n)))
   where
     go : (o : Emitted) (u : Bool) → AreBytes o → AreBytes (cond u torn o)
     go o true h = tt
@@ -73,8 +98,8 @@ bytes-emit (suc d) t n =
 
 -- ---- the comparison
 
-same-eq : (xs ys : List ℕ) → same xs ys ≡ true → xs ≡ ys
-unfolding same
+same-eq : (xs ys : List ℕ) → sameNumbers xs ys ≡ true → xs ≡ ys
+unfolding sameNumbers
 same-eq [] [] e = refl
 same-eq [] (y ∷ ys) e = cc
 same-eq (x ∷ xs) [] e = cc
@@ -83,8 +108,8 @@ same-eq (x ∷ xs) (y ∷ ys) e =
     let q = same-eq xs ys (both-right (eqb x y) _ e) in
     cc
 
-same-self : (xs : List ℕ) → same xs xs ≡ true
-unfolding same
+same-self : (xs : List ℕ) → sameNumbers xs xs ≡ true
+unfolding sameNumbers
 same-self [] = refl
 same-self (x ∷ xs) = both _ _ (eq-eqb x x refl) (same-self xs)
 
@@ -93,8 +118,8 @@ same-self (x ∷ xs) = both _ _ (eq-eqb x x refl) (same-self xs)
 -- What the writer may give for the flat table t, where `room` bytes are lent: each answer, and when it is given.
 pub data Verdict (kind : ℕ) (counts : Counts) (t : List ℕ) (room : ℕ) : Written → Type 0 where
   unknown-kind : maxKind < kind → Verdict kind counts t room (refused 12 0)
-  too-many-rows : kind ≤ maxKind → known counts ≡ false → Verdict kind counts t room (refused 13 0)
-  no-blob : kind ≤ maxKind → known counts ≡ true → ((s : List ℕ) → HasTable kind counts s t → ⊥) → Verdict kind counts t room (refused 14 0)
+  too-many-rows : kind ≤ maxKind → knownCounts counts ≡ false → Verdict kind counts t room (refused 13 0)
+  no-blob : kind ≤ maxKind → knownCounts counts ≡ true → ((s : List ℕ) → HasTable kind counts s t → ⊥) → Verdict kind counts t room (refused 14 0)
   short : (s : List ℕ) → HasTable kind counts s t → room < length s → Verdict kind counts t room (refused 15 (length s))
   given : (s : List ℕ) → HasTable kind counts s t → length s ≤ room → Verdict kind counts t room (written s)
 
@@ -107,16 +132,16 @@ module _ (kind : ℕ) (counts : Counts) (t : List ℕ) where
   emitted-is : (s : List ℕ) (h : HasTable kind counts s t) → emitted t ≡ wrote s (h .nodes)
   emitted-is s h = rw (h .table) at (emitted-back kind counts s (h .signature))
 
-  confirmed-is : (s : List ℕ) → HasTable kind counts s t → isTable t (judge kind counts s) ≡ true
-  unfolding isTable
+  confirmed-is : (s : List ℕ) → HasTable kind counts s t → hasTable t (judge kind counts s) ≡ true
+  unfolding hasTable
   confirmed-is s h = rw (derivable kind counts s (h .nodes) (h .records) (h .signature), h .table) (same-self t)
 
   -- what is confirmed has the table
-  has-table : (s : List ℕ) → Bytes s → isTable t (judge kind counts s) ≡ true → HasTable kind counts s t
-  unfolding isTable
+  has-table : (s : List ℕ) → Bytes s → hasTable t (judge kind counts s) ≡ true → HasTable kind counts s t
+  unfolding hasTable
   has-table s b e = go (judge kind counts s) refl e
     where
-      go : (o : Out) → judge kind counts s ≡ o → isTable t o ≡ true → HasTable kind counts s t
+      go : (o : Out) → judge kind counts s ≡ o → hasTable t o ≡ true → HasTable kind counts s t
       go (fault code place) q c = let z : _≡_ {A = ℕ} 0 1 = cc in absurd (omega arith)
       go (done a n rs) q c =
           record { bytes = b; nodes = n; records = rs; signature = accepted kind counts s b a n rs q .1; table = same-eq (flat rs) t c }
@@ -129,20 +154,20 @@ module _ (kind : ℕ) (counts : Counts) (t : List ℕ) where
         go true e = given s h (leb-true _ _ e)
         go false e = short s h (leb-false _ _ e)
 
-    judged : (o : Emitted) → emitted t ≡ o → AreBytes o → kind ≤ maxKind → known counts ≡ true → Verdict kind counts t room (confirmed kind counts t room o)
+    judged : (o : Emitted) → emitted t ≡ o → AreBytes o → kind ≤ maxKind → knownCounts counts ≡ true → Verdict kind counts t room (confirmed kind counts t room o)
     unfolding AreBytes
     judged torn e b l k = no-blob l k (λ s h. let f = emitted-is s h in let z : _≡_ {A = ℕ} 0 1 = cc in omega arith)
-    judged (wrote s n) e b l k = go (isTable t (judge kind counts s)) refl
+    judged (wrote s n) e b l k = go (hasTable t (judge kind counts s)) refl
       where
-        other : isTable t (judge kind counts s) ≡ false → (s′ : List ℕ) → HasTable kind counts s′ t → ⊥
+        other : hasTable t (judge kind counts s) ≡ false → (s′ : List ℕ) → HasTable kind counts s′ t → ⊥
         other c s′ h =
             let g = emitted-is s′ h in
             let q : s ≡ s′ = cc in
-            let f : isTable t (judge kind counts s) ≡ true = rw q (confirmed-is s′ h) in
+            let f : hasTable t (judge kind counts s) ≡ true = rw q (confirmed-is s′ h) in
             let z : _≡_ {A = ℕ} 0 1 = cc in
             omega arith
 
-        go : (u : Bool) → isTable t (judge kind counts s) ≡ u → Verdict kind counts t room (cond u (fitted room s) (refused 14 0))
+        go : (u : Bool) → hasTable t (judge kind counts s) ≡ u → Verdict kind counts t room (cond u (fitted room s) (refused 14 0))
         go true c = fits s (has-table s b c)
         go false c = no-blob l k (other c)
 
@@ -151,7 +176,7 @@ module _ (kind : ℕ) (counts : Counts) (t : List ℕ) where
     unfolding writing
     verdict =
         by-bool (leb kind maxKind)
-        (λ e. by-bool (known counts)
+        (λ e. by-bool (knownCounts counts)
         (λ f. rw (e, f) (judged (emitted t) refl (bytes-emit maxDepth t 0) (leb-true _ _ e) f))
         (λ f. rw (e, f) (too-many-rows (leb-true _ _ e) f)))
         (λ e. rw e (unknown-kind (leb-false _ _ e)))
@@ -162,7 +187,7 @@ module _ (kind : ℕ) (counts : Counts) (t : List ℕ) where
     writable s h =
         let g = h .signature in
         let e₁ : leb kind maxKind ≡ true = le-leb _ _ (g .known-kind) in
-        let e₂ : known counts ≡ true = both _ _ (both _ _ (le-leb _ _ (g .defs)) (le-leb _ _ (g .refs))) (le-leb _ _ (g .specs)) in
+        let e₂ : knownCounts counts ≡ true = both _ _ (both _ _ (le-leb _ _ (g .defs)) (le-leb _ _ (g .refs))) (le-leb _ _ (g .specs)) in
         rw (e₁, e₂, emitted-is s h, confirmed-is s h)
 
   -- a table has at most one blob of a kind

@@ -13,7 +13,7 @@ use Rattle.element.specs.Element.{formOf}
 use Rattle.element.specs.declared.Place.{Place}
 use Rattle.element.specs.declared.Place.the-variants as Place
 use Rattle.element.specs.declared.Form.{Form}
-use Rattle.element.specs.declared.Form.the-variants.{Leaf, Named, Variable, Wrap, Modified, Counted, Array, Instance, FnPtr, Callable, Generic}
+use Rattle.element.specs.declared.Form.the-variants.{Leaf, Named, Variable, Wrap, Modified, Counted, Array, Instance, Callable, Generic}
 use Rattle.grammar.specs.Kinds.{maxKind, rootOf}
 use Rattle.grammar.specs.Limits.{maxBytes, maxRows, maxNodes, maxDepth, maxRank}
 use Rattle.grammar.specs.Table.{entry, kindOf, SIZE, LOW, flat}
@@ -40,23 +40,33 @@ pub data Many (X : Span) : (k at n at′ n′ : ℕ) → List ℕ → List Node 
   more : {k at n at₁ n₁ at₂ n₂ : ℕ} {bs cs : List ℕ} {rs ts : List Node}
       → X at n at₁ n₁ bs rs → Many X k at₁ n₁ at₂ n₂ cs ts → Many X (suc k) at n at₂ n₂ (bs ++ cs) (rs ++ ts)
 
--- a SIZE or LOW node, where d levels are left for it
-pub data Bound (kind d : ℕ) : (at n at′ n′ : ℕ) → List ℕ → List Node → Type 0 where
-  bounded : {v at n next : ℕ} {bs : List ℕ} → 1 ≤ d → n < maxNodes → Numeral v at next bs
-      → Bound kind d at n next (n + 1) bs (entry kind v 0 0 at (n + 1) ∷ [])
+-- a node that is a number alone, whose bytes are as W says, where d levels are left for it
+pub data Bound (W : (v at next : ℕ) → List ℕ → Type 0) (kind d : ℕ) : (at n at′ n′ : ℕ) → List ℕ → List Node → Type 0 where
+  bounded : {v at n next : ℕ} {bs : List ℕ} → 1 ≤ d → n < maxNodes → W v at next bs
+      → Bound W kind d at n next (n + 1) bs (entry kind v 0 0 at (n + 1) ∷ [])
+
+abbrev pub Size : ℕ → Span
+Size d = Bound Numeral SIZE d
+
+abbrev pub Low : ℕ → Span
+Low d = Bound Numeral LOW d
 
 -- the byte b may begin a node with index n in the place p, and this follows it
 pub record Code (p : Place) (b n : ℕ) (f : Form) : Type 0 where
   pub form : formOf p b ≡ f
   pub room : n < maxNodes
 
--- "ParamCount, RetType, that many Params"
-pub data Call (R : Counts → Place → Span) (counts : Counts) : (c at n at′ n′ : ℕ) → List ℕ → List Node → Type 0 where
-  call : {c at n next at₁ n₁ at₂ n₂ : ℕ} {cb bs ps : List ℕ} {rs ts : List Node}
+-- c parameters, which are k nodes
+pub data Params (X : Span) : (c k at n at′ n′ : ℕ) → List ℕ → List Node → Type 0 where
+  parameters : {c at n at′ n′ : ℕ} {bs : List ℕ} {rs : List Node} → Many X c at n at′ n′ bs rs → Params X c c at n at′ n′ bs rs
+
+-- "ParamCount, RetType, that many Params", which are k nodes in the place p
+pub data Call (R : Counts → Place → Span) (counts : Counts) (p : Place) : (k at n at′ n′ : ℕ) → List ℕ → List Node → Type 0 where
+  call : {c k at n next at₁ n₁ at₂ n₂ : ℕ} {cb bs ps : List ℕ} {rs ts : List Node}
       → Numeral c at next cb
       → R counts Place.RetType next n at₁ n₁ bs rs
-      → Many (R counts Place.Param) c at₁ n₁ at₂ n₂ ps ts
-      → Call R counts c at n at₂ n₂ (cb ++ (bs ++ ps)) (rs ++ ts)
+      → Params (R counts p) c k at₁ n₁ at₂ n₂ ps ts
+      → Call R counts p k at n at₂ n₂ (cb ++ (bs ++ ps)) (rs ++ ts)
 
 -- One node in the place p, where R is what may stand one level below, and d levels are left there.
 pub data Step (R : Counts → Place → Span) (d : ℕ) (counts : Counts) (p : Place) : (at n at′ n′ : ℕ) → List ℕ → List Node → Type 0 where
@@ -70,7 +80,7 @@ pub data Step (R : Counts → Place → Span) (d : ℕ) (counts : Counts) (p : P
   variable : {b v at n next : ℕ} {vb : List ℕ} → Code p b n Variable
       → Numeral v (at + 1) next vb
       → Step R d counts p at n next (n + 1) (b ∷ vb) (entry (kindOf p b) v 0 0 at (n + 1) ∷ [])
-  -- PTR, BYREF, PINNED, SZARRAY, FIELD and what stands behind
+  -- PTR, BYREF, PINNED, SZARRAY, FNPTR, FIELD and what stands behind
   wrap : {b at n at₁ n₁ : ℕ} {q : Place} {bs : List ℕ} {rs : List Node} → Code p b n (Wrap q)
       → R counts q (at + 1) (n + 1) at₁ n₁ bs rs
       → Step R d counts p at n at₁ n₁ (b ∷ bs) (entry (kindOf p b) 0 0 1 at n₁ ∷ rs)
@@ -90,9 +100,9 @@ pub data Step (R : Counts → Place → Span) (d : ℕ) (counts : Counts) (p : P
       → R counts Place.Type (at + 1) (n + 1) at₁ n₁ bs rs
       → Numeral rank at₁ at₂ rb → 1 ≤ rank → rank ≤ maxRank
       → Numeral sizes at₂ at₃ sb → sizes ≤ rank
-      → Many (Bound SIZE d) sizes at₃ n₁ at₄ n₂ ss ts
+      → Many (Size d) sizes at₃ n₁ at₄ n₂ ss ts
       → Numeral lows at₄ at₅ lb → lows ≤ rank
-      → Many (Bound LOW d) lows at₅ n₂ at₆ n₃ ls us
+      → Many (Low d) lows at₅ n₂ at₆ n₃ ls us
       → Step R d counts p at n at₆ n₃ (b ∷ (bs ++ (rb ++ (sb ++ (ss ++ (lb ++ ls))))))
       (entry (kindOf p b) rank sizes (1 + sizes + lows) at n₃ ∷ (rs ++ (ts ++ us)))
   -- 15, then 11 or 12, a TypeDef or TypeRef token, a count of at least 1, and that many Types
@@ -102,19 +112,15 @@ pub data Step (R : Counts → Place → Span) (d : ℕ) (counts : Counts) (p : P
       → Numeral c at₁ at₂ cb → 1 ≤ c
       → Many (R counts Place.Type) c at₂ (n + 1) at₃ n₁ bs rs
       → Step R d counts p at n at₃ n₁ (b ∷ (w ∷ (tb ++ (cb ++ bs)))) (entry (kindOf p b) t w c at n₁ ∷ rs)
-  -- 1B and a Method
-  fnptr : {b at n at₁ n₁ : ℕ} {bs : List ℕ} {rs : List Node} → Code p b n FnPtr
-      → R counts Place.FnPtrMethod (at + 1) (n + 1) at₁ n₁ bs rs
-      → Step R d counts p at n at₁ n₁ (b ∷ bs) (entry (kindOf p b) 0 0 1 at n₁ ∷ rs)
   -- a Method or a PropertySig
-  method : {b c at n at₁ n₁ : ℕ} {bs : List ℕ} {rs : List Node} → Code p b n Callable
-      → Call R counts c (at + 1) (n + 1) at₁ n₁ bs rs
-      → Step R d counts p at n at₁ n₁ (b ∷ bs) (entry (kindOf p b) 0 b (c + 1) at n₁ ∷ rs)
+  method : {b k at n at₁ n₁ : ℕ} {q : Place} {bs : List ℕ} {rs : List Node} → Code p b n (Callable q)
+      → Call R counts q k (at + 1) (n + 1) at₁ n₁ bs rs
+      → Step R d counts p at n at₁ n₁ (b ∷ bs) (entry (kindOf p b) 0 b (k + 1) at n₁ ∷ rs)
   -- a Method with a generic count of at least 1
-  generic : {b g c at n next at₁ n₁ : ℕ} {gb bs : List ℕ} {rs : List Node} → Code p b n Generic
+  generic : {b g k at n next at₁ n₁ : ℕ} {q : Place} {gb bs : List ℕ} {rs : List Node} → Code p b n (Generic q)
       → Numeral g (at + 1) next gb → 1 ≤ g
-      → Call R counts c next (n + 1) at₁ n₁ bs rs
-      → Step R d counts p at n at₁ n₁ (b ∷ (gb ++ bs)) (entry (kindOf p b) g b (c + 1) at n₁ ∷ rs)
+      → Call R counts q k next (n + 1) at₁ n₁ bs rs
+      → Step R d counts p at n at₁ n₁ (b ∷ (gb ++ bs)) (entry (kindOf p b) g b (k + 1) at n₁ ∷ rs)
 
 -- one node of the place p, at most d levels deep
 abbrev pub Derives : ℕ → Counts → Place → Span

@@ -12,13 +12,13 @@ use Rattle.grammar.specs.declared.Node.{Node}
 
 -- how a record's numbers and children stand in the blob
 pub data Layout : Type 0 where
-  plain valued array instance callable field locals bound : Layout
+  plain valued array instance callable field locals size low : Layout
 
 -- the layouts by kind; every other kind is plain
 abbrev pub layouts : List (ℕ × Layout)
 layouts =
     (0x11, valued) ∷ (0x12, valued) ∷ (0x13, valued) ∷ (0x1E, valued) ∷ (0x1F, valued) ∷ (0x20, valued) ∷ (0x14, array) ∷ (0x15, instance)
-    ∷ (METHOD, callable) ∷ (FIELD, field) ∷ (LOCALS, locals) ∷ (PROPERTY, callable) ∷ (SIZE, bound) ∷ (LOW, bound) ∷ []
+    ∷ (METHOD, callable) ∷ (FIELD, field) ∷ (LOCALS, locals) ∷ (PROPERTY, callable) ∷ (SIZE, size) ∷ (LOW, low) ∷ []
 
 abbrev pub layoutIn : List (ℕ × Layout) → ℕ → Layout
 layoutIn [] kind = plain
@@ -31,17 +31,22 @@ layoutOf kind = layoutIn layouts kind
 abbrev pub lowsOf : Node → ℕ
 lowsOf r = r .children - 1 - r .b
 
--- What stands in the blob for a record: numbers, then some children, and for an ARRAY so three times. A code or lead byte is a number
--- too: below 80 hex a number is its own encoding.
-unfoldable pub partsOf : Layout → Node → List (List ℕ × ℕ)
-partsOf plain r = (r .kind ∷ [], r .children) ∷ []
-partsOf valued r = (r .kind ∷ r .a ∷ [], r .children) ∷ []
-partsOf array r = (r .kind ∷ [], 1) ∷ (r .a ∷ r .b ∷ [], r .b) ∷ (lowsOf r ∷ [], lowsOf r) ∷ []
-partsOf instance r = (r .kind ∷ r .b ∷ r .a ∷ r .children ∷ [], r .children) ∷ []
-partsOf callable r = (r .b ∷ cond (eqb (r .a) 0) [] (r .a ∷ []) ++ (r .children - 1) ∷ [], r .children) ∷ []
-partsOf field r = (0x06 ∷ [], r .children) ∷ []
-partsOf locals r = (0x07 ∷ r .children ∷ [], r .children) ∷ []
-partsOf bound r = (r .a ∷ [], r .children) ∷ []
+-- the ParamCount of the METHOD or PROPERTY with index n of the flat table t: its children but the return type
+abbrev pub paramCount : List ℕ → ℕ → ℕ
+paramCount t n = recordAt t n .children - 1
+
+-- What stands in the blob for the record r, which is record n of the flat table t: bytes, then some children, and for an ARRAY so three times.
+-- A code or lead byte is written as a number: below 80 hex a number is its own encoding.
+unfoldable pub partsOf : Layout → List ℕ → ℕ → Node → List (List ℕ × ℕ)
+partsOf plain t n r = (encode (r .kind), r .children) ∷ []
+partsOf valued t n r = (encode (r .kind) ++ encode (r .a), r .children) ∷ []
+partsOf array t n r = (encode (r .kind), 1) ∷ (encode (r .a) ++ encode (r .b), r .b) ∷ (encode (lowsOf r), lowsOf r) ∷ []
+partsOf instance t n r = (encode (r .kind) ++ (encode (r .b) ++ (encode (r .a) ++ encode (r .children))), r .children) ∷ []
+partsOf callable t n r = (encode (r .b) ++ (cond (eqb (r .a) 0) [] (encode (r .a)) ++ encode (paramCount t n)), r .children) ∷ []
+partsOf field t n r = (0x06 ∷ [], r .children) ∷ []
+partsOf locals t n r = (0x07 ∷ encode (r .children), r .children) ∷ []
+partsOf size t n r = (encode (r .a), r .children) ∷ []
+partsOf low t n r = (encode (r .a), r .children) ∷ []
 
 -- no table of a blob; or the bytes and the index after the records that they are of
 pub data Emitted : Type 0 where
@@ -52,11 +57,6 @@ abbrev pub andThen : Emitted → (List ℕ → ℕ → Emitted) → Emitted
 andThen torn k = torn
 andThen (wrote bs n) k = k bs n
 
--- the encodings of numbers, then the bytes `rest`
-unfoldable pub spell : List ℕ → List ℕ → List ℕ
-spell [] rest = rest
-spell (v ∷ vs) rest = encode v ++ spell vs rest
-
 -- k subtrees from record n on
 unfoldable pub times : (ℕ → Emitted) → ℕ → ℕ → Emitted
 times item zero n = wrote [] n
@@ -65,14 +65,14 @@ times item (suc k) n = andThen (item n) (λ bs n₁. andThen (times item k n₁)
 unfoldable pub parts : (ℕ → Emitted) → List (List ℕ × ℕ) → ℕ → Emitted
 parts item [] n = wrote [] n
 parts item (p ∷ ps) n =
-    andThen (times item (p .1) n) (λ bs n₁. andThen (parts item ps n₁) (λ cs n₂. wrote (spell (p .0) (bs ++ cs)) n₂))
+    andThen (times item (p .1) n) (λ bs n₁. andThen (parts item ps n₁) (λ cs n₂. wrote (p .0 ++ (bs ++ cs)) n₂))
 
 -- the subtree whose root is record n of the flat table t, at most d levels deep
 unfoldable pub emit : (d : ℕ) → List ℕ → ℕ → Emitted
 emit zero t n = torn
 emit (suc d) t n =
     cond (leb (length t / 6) n) torn
-    (parts (λ n′. emit d t n′) (partsOf (layoutOf (recordAt t n .kind)) (recordAt t n)) (n + 1))
+    (parts (λ n′. emit d t n′) (partsOf (layoutOf (recordAt t n .kind)) t n (recordAt t n)) (n + 1))
 
 -- the whole table
 abbrev pub emitted : List ℕ → Emitted

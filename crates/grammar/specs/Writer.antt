@@ -7,19 +7,19 @@ use lib.Dec.{leb, eqb}
 use Rattle.number.specs.declared.token.Counts.{Counts}
 use Rattle.grammar.specs.Kinds.{maxKind}
 use Rattle.grammar.specs.Table.{flat}
-use Rattle.grammar.specs.Judge.{Out, fault, done, known, judge}
+use Rattle.grammar.specs.Judge.{Out, fault, done, knownCounts, judge}
 use Rattle.grammar.specs.Emit.{Emitted, torn, wrote, emitted}
 
-unfoldable pub same : List ℕ → List ℕ → Bool
-same [] [] = true
-same [] (y ∷ ys) = false
-same (x ∷ xs) [] = false
-same (x ∷ xs) (y ∷ ys) = eqb x y && same xs ys
+unfoldable pub sameNumbers : List ℕ → List ℕ → Bool
+sameNumbers [] [] = true
+sameNumbers [] (y ∷ ys) = false
+sameNumbers (x ∷ xs) [] = false
+sameNumbers (x ∷ xs) (y ∷ ys) = eqb x y && sameNumbers xs ys
 
 -- what was read has the flat table t; a tail short of six numbers is in no such table
-unfoldable pub isTable : List ℕ → Out → Bool
-isTable t (fault code place) = false
-isTable t (done at n rs) = same (flat rs) t
+unfoldable pub hasTable : List ℕ → Out → Bool
+hasTable t (fault code place) = false
+hasTable t (done at n rs) = sameNumbers (flat rs) t
 
 -- What the writer gives: a refusal's number and place, or the bytes.
 pub data Written : Type 0 where
@@ -33,11 +33,11 @@ fitted room s = cond (leb (length s) room) (written s) (refused 15 (length s))
 -- 14 "no blob of this kind under these counts has this table"
 abbrev pub confirmed : (kind : ℕ) → Counts → List ℕ → (room : ℕ) → Emitted → Written
 confirmed kind counts t room torn = refused 14 0
-confirmed kind counts t room (wrote s n) = cond (isTable t (judge kind counts s)) (fitted room s) (refused 14 0)
+confirmed kind counts t room (wrote s n) = cond (hasTable t (judge kind counts s)) (fitted room s) (refused 14 0)
 
 -- the writer for the flat table t, where `room` bytes are lent
 unfoldable pub writing : (kind : ℕ) → Counts → List ℕ → (room : ℕ) → Written
 writing kind counts t room =
     cond (leb kind maxKind)
-    (cond (known counts) (confirmed kind counts t room (emitted t)) (refused 13 0))
+    (cond (knownCounts counts) (confirmed kind counts t room (emitted t)) (refused 13 0))
     (refused 12 0)

@@ -1,11 +1,11 @@
 // Histories of calls on a register. What is printed is held to the file stdout.
 mod print;
 
+use register::MAX_SIZE;
 use register::Register;
-use register::SIZE;
 use register::WORDS;
 
-type Sets = [u32; SIZE * WORDS];
+type Sets = [u32; MAX_SIZE * WORDS];
 
 fn ask_three(g: Register, sets: &Sets) {
     print::ask(g, 1, sets);
@@ -88,7 +88,7 @@ fn refilings(g: Register, sets: &mut Sets) -> Register {
 // A register value that no call hands back. The refused filing leaves what row 1 names.
 fn forged(g: Register, sets: &mut Sets) {
     let mut h = g;
-    h.rows = 513;
+    h.counts.specs = 513;
     let h = print::file(h, 1, b"\x08", sets);
     print::word(sets, 0);
     let h = print::acknowledge(h, 1, sets);
@@ -114,7 +114,7 @@ fn too_few(g: Register) {
     let enough = [0u32; 80];
     print::ask(g, 6, &enough);
     let mut h = g;
-    h.rows = 513;
+    h.counts.specs = 513;
     print::ask(h, 514, &few);
 }
 
@@ -160,7 +160,7 @@ fn written(sets: &mut Sets) {
 // A register and memory that no call leaves: a count above FFFFFF, a state above 2, and a bit that names a row above the size.
 fn forged_rows(sets: &mut Sets) {
     let mut g = print::open(0, 0, 2, sets);
-    g.defs = 0x1000000;
+    g.counts.defs = 0x1000000;
     g.states[1] = 7;
     let g = print::file(g, 1, b"\x08", sets);
     print::ask(g, 1, sets);
@@ -189,7 +189,7 @@ fn just_enough() {
 }
 
 fn main() {
-    let mut sets = [0xFFFFFFFFu32; SIZE * WORDS];
+    let mut sets = [0xFFFFFFFFu32; MAX_SIZE * WORDS];
     written(&mut sets);
     forged_rows(&mut sets);
     just_enough();

@@ -1,14 +1,13 @@
 // What the histories print: each call with its answer, on standard output.
-use libc::STDOUT_FILENO;
+use cases::print::number;
+use cases::print::text;
+use number::token::no_counts;
 use register::Register;
 
-fn text(s: &[u8]) {
-    io::write_all(STDOUT_FILENO, s);
-}
-
-fn decimal(n: u64) {
-    text(b" ");
-    io::print_decimal(STDOUT_FILENO, n);
+// What a call is, its row and its number.
+fn call(name: &[u8], row: usize, code: u32) {
+    number(name, row as u64);
+    number(b": ", code as u64);
 }
 
 fn standing(n: u32) {
@@ -22,32 +21,27 @@ fn standing(n: u32) {
     }
 }
 
-pub fn open(defs: u32, refs: u32, rows: usize, sets: &mut [u32]) -> Register {
-    let c = register::open(defs, refs, rows, sets);
-    text(b"open");
-    decimal(rows as u64);
-    text(b":");
-    decimal(c.code as u64);
+pub fn open(defs: u32, refs: u32, rows: u32, sets: &mut [u32]) -> Register {
+    let mut counts = no_counts();
+    counts.defs = defs;
+    counts.refs = refs;
+    counts.specs = rows;
+    let c = register::open(counts, sets);
+    call(b"open ", rows as usize, c.code);
     text(b"\n");
     c.register
 }
 
 pub fn file(g: Register, row: usize, blob: &[u8], sets: &mut [u32]) -> Register {
     let c = register::file(g, row, blob, sets);
-    text(b"file");
-    decimal(row as u64);
-    text(b":");
-    decimal(c.code as u64);
+    call(b"file ", row, c.code);
     text(b"\n");
     c.register
 }
 
 pub fn acknowledge(g: Register, row: usize, sets: &[u32]) -> Register {
     let c = register::acknowledge(g, row, sets);
-    text(b"acknowledge");
-    decimal(row as u64);
-    text(b":");
-    decimal(c.code as u64);
+    call(b"acknowledge ", row, c.code);
     text(b"\n");
     c.register
 }
@@ -55,32 +49,26 @@ pub fn acknowledge(g: Register, row: usize, sets: &[u32]) -> Register {
 // The answer, then standing, finding, place and mark.
 pub fn ask(g: Register, row: usize, sets: &[u32]) {
     let a = register::ask(g, row, sets);
-    text(b"ask");
-    decimal(row as u64);
-    text(b":");
-    decimal(a.code as u64);
+    call(b"ask ", row, a.code);
     if a.code == 0 {
         standing(a.standing);
     } else {
-        decimal(a.standing as u64);
+        number(b" ", a.standing as u64);
     }
-    decimal(a.finding as u64);
-    decimal(a.place as u64);
-    decimal(a.mark as u64);
+    number(b" ", a.finding as u64);
+    number(b" ", a.place as u64);
+    number(b" ", a.mark as u64);
     text(b"\n");
 }
 
-fn wide(x: u32) -> u64 {
-    x as u64
+fn show_word(at: usize, word: u32) {
+    call(b"word ", at, word);
+    text(b"\n");
 }
 
 // One of the numbers lent.
 pub fn word(sets: &[u32], at: usize) {
     if at < sets.len() {
-        text(b"word");
-        decimal(at as u64);
-        text(b":");
-        decimal(wide(sets[at]));
-        text(b"\n");
+        show_word(at, sets[at]);
     }
 }

@@ -1,4 +1,5 @@
 pub mod Items
 pub mod Walks
+pub mod Lists
 pub mod Sound
 pub mod Complete

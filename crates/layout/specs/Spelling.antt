@@ -4,36 +4,34 @@ use mathlib.Core.Path.{_≡_}
 use mathlib.Core.List.{List, [], _∷_, _++_}
 use lib.ListN.{length}
 use Rattle.number.specs.Number.{limit, encode}
+use Rattle.number.specs.declared.token.Counts.{Counts}
 use Rattle.grammar.specs.Limits.{maxRows}
 use Rattle.answer.specs.Size.{maxSize}
 use Rattle.layout.specs.Layout.{maxSheet}
 
--- "each as length and bytes"
-unfoldable pub blobsSpelled : List (List ℕ) → List ℕ
-blobsSpelled [] = []
-blobsSpelled (blob ∷ blobs) = encode (length blob) ++ blob ++ blobsSpelled blobs
+-- the items of a list, each spelled, one after the other
+unfoldable pub spelled : {A : Type 0} → (A → List ℕ) → List A → List ℕ
+spelled item [] = []
+spelled item (x ∷ xs) = item x ++ spelled item xs
 
--- each row a number
-unfoldable pub acksSpelled : List ℕ → List ℕ
-acksSpelled [] = []
-acksSpelled (row ∷ acks) = encode row ++ acksSpelled acks
+-- every item is so
+unfoldable pub Each : {A : Type 0} → (A → Type 0) → List A → Type 0
+Each P [] = Unit {0}
+Each P (x ∷ xs) = P x × Each P xs
 
--- every one of them has an encoding
-unfoldable pub Encodable : List ℕ → Type 0
-Encodable [] = Unit {0}
-Encodable (n ∷ ns) = (n < limit) × Encodable ns
-
-unfoldable pub lengths : List (List ℕ) → List ℕ
-lengths [] = []
-lengths (blob ∷ blobs) = length blob ∷ lengths blobs
+-- "length and bytes"
+abbrev pub blobSpelled : List ℕ → List ℕ
+blobSpelled blob = encode (length blob) ++ blob
 
 -- "Compressed numbers, sections in a fixed order, each after its count: 2, then TypeDef and TypeRef counts; number of TypeSpec blobs (1 to 64),
--- each as length and bytes; number of acknowledgements, then rows"; document 02, wish 8: "Raise it to 512, in .. the sheet"
-pub record Sheet (s : List ℕ) (defs refs : ℕ) (blobs : List (List ℕ)) (acks : List ℕ) : Type 0 where
+-- each as length and bytes; number of acknowledgements, then rows"; document 02, wish 8: "Raise it to 512, in .. the sheet". Every number of it has
+-- an encoding.
+pub record Sheet (s : List ℕ) (counts : Counts) (blobs : List (List ℕ)) (acks : List ℕ) : Type 0 where
   pub size : length s ≤ maxSheet
-  pub defs-few : defs ≤ maxRows
-  pub refs-few : refs ≤ maxRows
+  pub defs-few : counts .defs ≤ maxRows
+  pub refs-few : counts .refs ≤ maxRows
+  pub rows : counts .specs ≡ length blobs
   pub some-blobs : 1 ≤ length blobs
   pub few-blobs : length blobs ≤ maxSize
-  pub numbers : (length acks < limit) × Encodable (lengths blobs) × Encodable acks
-  pub spelled : s ≡ encode 2 ++ (encode defs ++ (encode refs ++ (encode (length blobs) ++ (blobsSpelled blobs ++ (encode (length acks) ++ acksSpelled acks)))))
+  pub numbers : (length acks < limit) × Each (λ blob. length blob < limit) blobs × Each (λ row. row < limit) acks
+  pub spells : s ≡ encode 2 ++ (encode (counts .defs) ++ (encode (counts .refs) ++ (encode (length blobs) ++ (spelled blobSpelled blobs ++ (encode (length acks) ++ spelled encode acks)))))

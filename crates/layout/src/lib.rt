@@ -2,12 +2,15 @@
 ghost use mathlib.Core.Path.{_≡_};
 ghost use Prim.Native.Nat.{_≤_};
 ghost use lib.ListN.{length};
-ghost use Rattle.layout.specs.Layout.{countOf, blobAt, itemOf, noted, noLayout, sections, layoutOf};
-use answer::SIZE;
+ghost use Rattle.layout.specs.Layout.{sectionCount, itemAt, noteOf, sectionsOf, layoutOf, countsOf};
+use answer::MAX_SIZE;
 use grammar::MAX_ROWS;
 use number::checked::Checked;
+use number::token::Counts;
+use number::token::no_counts;
 
-const MAX_SHEET: usize = 65536;
+// The most bytes of a sheet.
+pub const MAX_SHEET: usize = 65536;
 
 const SECTIONS: usize = 3;
 
@@ -17,7 +20,7 @@ pub struct Layout {
     pub blobs: usize,
     pub rows: u32,
     pub acks: usize,
-    pub presses: u32,
+    pub acknowledged: u32,
 }
 
 // A sheet's layout, or the place of its first fault.
@@ -28,63 +31,29 @@ pub enum Parsed {
 
 // The count of a section.
 fn section_count(s: &[u8], section: usize, at: usize) -> Checked
-    ensures { λ r. ⌜ r ≡ countOf section (now (s .entry)) at ⌝ }
+    ensures { λ r. ⌜ r ≡ sectionCount section (now (s .entry)) at ⌝ }
 {
     match section {
         0 => number::checked::count_at(s, at, 2, 2),
-        1 => number::checked::count_at(s, at, 1, SIZE as u32),
+        1 => number::checked::count_at(s, at, 1, MAX_SIZE as u32),
         _ => number::checked::checked_at(s, at),
-    }
-}
-
-// A blob: its length and the offset after it.
-pub fn blob_at(s: &[u8], at: usize) -> Checked
-    ensures { λ r. ⌜ r ≡ blobAt (now (s .entry)) at ⌝ }
-{
-    match number::checked::checked_at(s, at) {
-        Checked::Good { value, next } => {
-            let length = value as usize;
-            if s.len() < length {
-                return Checked::Bad { code: 2 };
-            }
-            if s.len() - length < next {
-                return Checked::Bad { code: 2 };
-            }
-            Checked::Good {
-                value,
-                next: next + length,
-            }
-        }
-        Checked::Bad { code } => Checked::Bad { code },
     }
 }
 
 // An item of a section: its number and the offset after it.
 fn item_at(s: &[u8], section: usize, at: usize) -> Checked
-    ensures { λ r. ⌜ r ≡ itemOf section (now (s .entry)) at ⌝ }
+    ensures { λ r. ⌜ r ≡ itemAt section (now (s .entry)) at ⌝ }
 {
     match section {
         0 => number::checked::count_at(s, at, 0, MAX_ROWS),
-        1 => blob_at(s, at),
+        1 => number::blob::blob_at(s, at),
         _ => number::checked::checked_at(s, at),
-    }
-}
-
-fn blank_layout() -> Layout
-    ensures { λ r. ⌜ r ≡ noLayout ⌝ }
-{
-    Layout {
-        counts: 0,
-        blobs: 0,
-        rows: 0,
-        acks: 0,
-        presses: 0,
     }
 }
 
 // Notes where the items of a section begin, and how many there are.
 fn note(layout: Layout, section: usize, count: u32, next: usize) -> Layout
-    ensures { λ r. ⌜ r ≡ noted section count next layout ⌝ }
+    ensures { λ r. ⌜ r ≡ noteOf section count next layout ⌝ }
 {
     let mut l = layout;
     match section {
@@ -97,7 +66,7 @@ fn note(layout: Layout, section: usize, count: u32, next: usize) -> Layout
         }
         _ => {
             l.acks = next;
-            l.presses = count;
+            l.acknowledged = count;
         }
     }
     l
@@ -105,9 +74,15 @@ fn note(layout: Layout, section: usize, count: u32, next: usize) -> Layout
 
 // Reads the sections in their order; the label leaves both loops with the place of the first fault.
 fn sections_of(s: &[u8]) -> Parsed
-    ensures { λ r. ⌜ r ≡ sections 3 0 (now (s .entry)) 0 noLayout ⌝ }
+    ensures { λ r. ⌜ r ≡ sectionsOf (now (s .entry)) ⌝ }
 {
-    let mut layout = blank_layout();
+    let mut layout = Layout {
+        counts: 0,
+        blobs: 0,
+        rows: 0,
+        acks: 0,
+        acknowledged: 0,
+    };
     let mut at = 0;
     let mut section = 0;
     let place = 'sheet: loop {
@@ -124,12 +99,12 @@ fn sections_of(s: &[u8]) -> Parsed
                 at = next;
                 layout = note(layout, section, value, next);
             }
-            Checked::Bad { code: _ } => break 'sheet at,
+            Checked::Bad { refusal: _ } => break 'sheet at,
         }
         while 0 < left {
             match item_at(s, section, at) {
                 Checked::Good { value: _, next } => at = next,
-                Checked::Bad { code: _ } => break 'sheet at,
+                Checked::Bad { refusal: _ } => break 'sheet at,
             }
             left -= 1;
         }
@@ -146,4 +121,24 @@ pub fn layout_of(s: &[u8]) -> Parsed
         return Parsed::Refused(MAX_SHEET);
     }
     sections_of(s)
+}
+
+// The table counts of an accepted sheet.
+pub fn counts_of(s: &[u8], layout: Layout) -> Counts
+    ensures { λ r. ⌜ r ≡ countsOf (now (s .entry)) layout ⌝ }
+{
+    match number::checked::checked_at(s, layout.counts) {
+        Checked::Good { value: defs, next } => match number::checked::checked_at(s, next) {
+            Checked::Good {
+                value: refs,
+                next: _,
+            } => Counts {
+                defs,
+                refs,
+                specs: layout.rows,
+            },
+            Checked::Bad { refusal: _ } => no_counts(),
+        },
+        Checked::Bad { refusal: _ } => no_counts(),
+    }
 }

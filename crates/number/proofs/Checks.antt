@@ -8,16 +8,16 @@ use lib.ListN.{length, getD}
 use lib.Dec.{leb}
 use native.Mathlib.Omega.{arith}
 use borrow.Author.Tests.{leb-true, le-leb, lt-leb, lt-ltb, le-ltb}
-use Rattle.number.specs.Number.{numberAt}
-use Rattle.number.specs.Checked.{checked, checkedAt, countOf, countAt}
-use Rattle.number.specs.Token.{rowsOf, tokenOf, tokenAt}
+use Rattle.number.specs.Number.{Bytes, limit, numberAt}
+use Rattle.number.specs.Checked.{checked, checkedAt, onChecked, countOf, countAt}
+use Rattle.number.specs.Token.{tagOf, rowOf, rowsOf, tokenOf, tokenAt}
 use Rattle.number.specs.declared.Number.{Number}
 use Rattle.number.specs.declared.Number.the-variants.{Value, Cut, BadByte, TooLong}
 use Rattle.number.specs.declared.checked.Checked.{Checked}
 use Rattle.number.specs.declared.checked.Checked.the-variants.{Good, Bad}
 use Rattle.number.specs.declared.token.Counts.{Counts}
 use Rattle.number.proofs.Cases.{one-byte}
-use Rattle.number.proofs.Laws.{onward}
+use Rattle.number.proofs.Laws.{onward, decoded}
 
 -- ---- what it says of a number that it passed
 
@@ -41,7 +41,26 @@ count-good low high v next (Good x z) e = go (leb low x) (leb x high) refl refl 
     go true true l u e = let a : x ≡ v = cc in (e, subst (λ y. low ≤ y) a (leb-true low x l), subst (λ y. y ≤ high) a (leb-true x high u))
     go true false l u e = let z : _≡_ {A = ℕ} 0 1 = cc in absurd (omega arith)
     go false b l u e = let z : _≡_ {A = ℕ} 0 1 = cc in absurd (omega arith)
-count-good low high v next (Bad code) e = let z : _≡_ {A = ℕ} 0 1 = cc in absurd (omega arith)
+count-good low high v next (Bad refusal) e = let z : _≡_ {A = ℕ} 0 1 = cc in absurd (omega arith)
+
+-- a number that was read is below 2^29
+pub checked-small : (s : List ℕ) (at v next : ℕ) (y : Checked) → Bytes s → y ≡ checkedAt s at → y ≡ Good v next → v < limit
+unfolding checkedAt
+checked-small s at v next y bytes e g = decoded s at v next bytes (checked-good (numberAt s at) v next (sym e ∙ g)) .small
+
+-- a count is at most what it may be
+pub count-most : (low high : ℕ) (s : List ℕ) (at v next : ℕ) (y : Checked) → y ≡ countAt low high s at → y ≡ Good v next → v ≤ high
+unfolding countAt
+count-most low high s at v next y e g = count-good low high v next (checkedAt s at) (sym e ∙ g) .2
+
+-- ---- the eliminator. y is what a call gave, and its contract says that it is x
+
+module _ {A : Type 0} {y x : Checked} (e : y ≡ x) (good : ℕ → ℕ → A) (bad : ℕ → A) where
+  pub on-bad : {c : ℕ} → y ≡ Bad c → bad c ≡ onChecked x good bad
+  on-bad g = rw (sym e ∙ g)
+
+  pub on-good : {v next : ℕ} {r : A} → y ≡ Good v next → r ≡ good v next → r ≡ onChecked x good bad
+  on-good g h = rw (sym e ∙ g) h
 
 -- ---- the ways out
 
@@ -79,20 +98,20 @@ module _ (s : List ℕ) (at : ℕ) where
       unfolding tokenAt tokenOf
       token-bad e = rw (← is, e)
 
-      module _ {v z : ℕ} (good : o ≡ Good v z) where
-        pub token-tag : tags ≤ v % 4 → Bad 7 ≡ tokenAt tags counts s at
+      module _ {v z : ℕ} (good : o ≡ Good v z) {tag row : ℕ} (tagged : tag ≡ tagOf v) (numbered : row ≡ rowOf v) where
+        pub token-tag : tags ≤ tag → Bad 7 ≡ tokenAt tags counts s at
         unfolding tokenAt tokenOf
-        token-tag l = rw (← is, good, le-ltb (v % 4) tags l)
+        token-tag l = rw (← is, good, ← tagged, le-ltb tag tags l)
 
-        pub token-zero : v % 4 < tags → v / 4 ≡ 0 → Bad 8 ≡ tokenAt tags counts s at
+        pub token-zero : tag < tags → row ≡ 0 → Bad 8 ≡ tokenAt tags counts s at
         unfolding tokenAt tokenOf
-        token-zero l e = rw (← is, good, lt-ltb (v % 4) tags l, e)
+        token-zero l e = rw (← is, good, ← tagged, ← numbered, lt-ltb tag tags l, e)
 
-        module _ {rows : ℕ} (counted : rows ≡ rowsOf counts (v % 4)) where
-          pub token-past : v % 4 < tags → (v / 4 ≡ 0 → ⊥) → rows < v / 4 → Bad 8 ≡ tokenAt tags counts s at
+        module _ {rows : ℕ} (counted : rows ≡ rowsOf counts tag) where
+          pub token-past : tag < tags → (row ≡ 0 → ⊥) → rows < row → Bad 8 ≡ tokenAt tags counts s at
           unfolding tokenAt tokenOf
-          token-past l m u = rw (← is, good, lt-ltb (v % 4) tags l, le-leb 1 (v / 4) (omega arith), ← counted, lt-leb (v / 4) rows u)
+          token-past l m u = rw (← is, good, ← tagged, ← numbered, lt-ltb tag tags l, le-leb 1 row (omega arith), ← counted, lt-leb row rows u)
 
-          pub token-in : v % 4 < tags → (v / 4 ≡ 0 → ⊥) → v / 4 ≤ rows → Good v z ≡ tokenAt tags counts s at
+          pub token-in : tag < tags → (row ≡ 0 → ⊥) → row ≤ rows → Good v z ≡ tokenAt tags counts s at
           unfolding tokenAt tokenOf
-          token-in l m u = rw (← is, good, lt-ltb (v % 4) tags l, le-leb 1 (v / 4) (omega arith), ← counted, le-leb (v / 4) rows u)
+          token-in l m u = rw (← is, good, ← tagged, ← numbered, lt-ltb tag tags l, le-leb 1 row (omega arith), ← counted, le-leb row rows u)

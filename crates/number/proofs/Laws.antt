@@ -16,7 +16,7 @@ use borrow.Author.Tests.{ltb-true, ltb-false}
 use Rattle.number.specs.Number.{Bytes, limit, numberAt, encode, whole, value2, value4}
 use Rattle.number.specs.declared.Number.the-variants.{Value, Cut, BadByte, TooLong}
 use Rattle.number.proofs.Cases.{at-end, one-byte, two-byte, four-byte, bad-byte, cut, too-long, fit}
-use Rattle.number.proofs.Encoding.{encode-1, encode-2, encode-4, encode-none}
+use Rattle.number.proofs.Encodes.{encode-1, encode-2, encode-4, encode-none}
 use Rattle.number.proofs.Stands.{Standing, Stands, within}
 
 split : (a b : ℕ) → (a < b) ⊎ (b ≤ a)

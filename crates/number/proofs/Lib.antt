@@ -1,6 +1,7 @@
 pub mod Stands
 pub mod Cases
 pub mod Ones
-pub mod Encoding
+pub mod Encodes
 pub mod Laws
 pub mod Checks
+pub mod Blobs

@@ -19,10 +19,14 @@ checked TooLong = Bad 3
 unfoldable pub checkedAt : List ℕ → ℕ → Checked
 checkedAt s at = checked (numberAt s at)
 
+-- what was read goes on with the value and the offset after it, or with the refusal's number
+abbrev pub onChecked : {A : Type 0} → Checked → (ℕ → ℕ → A) → (ℕ → A) → A
+onChecked (Good v next) good bad = good v next
+onChecked (Bad refusal) good bad = bad refusal
+
 -- 4 "a count, Rank, NumSizes or NumLoBounds breaks its rule", which is to be from `low` to `high`
 unfoldable pub countOf : (low high : ℕ) → Checked → Checked
-countOf low high (Good v next) = cond (leb low v && leb v high) (Good v next) (Bad 4)
-countOf low high (Bad code) = Bad code
+countOf low high c = onChecked c (λ v next. cond (leb low v && leb v high) (Good v next) (Bad 4)) Bad
 
 unfoldable pub countAt : (low high : ℕ) → List ℕ → ℕ → Checked
 countAt low high s at = countOf low high (checkedAt s at)

@@ -1,3 +1,4 @@
 pub mod Number
 pub mod Checked
 pub mod Token
+pub mod Blob

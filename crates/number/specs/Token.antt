@@ -6,7 +6,7 @@ use lib.Dec.{ltb, leb, eqb}
 use Rattle.number.specs.declared.token.Counts.{Counts}
 use Rattle.number.specs.declared.checked.Checked.{Checked}
 use Rattle.number.specs.declared.checked.Checked.the-variants.{Good, Bad}
-use Rattle.number.specs.Checked.{checkedAt}
+use Rattle.number.specs.Checked.{checkedAt, onChecked}
 
 -- "row times 4 plus tag"
 abbrev pub tagOf : ℕ → ℕ
@@ -29,11 +29,16 @@ modTags = 3
 
 -- 7 for the tag, then 8 for the row: "Rows run from 1 to the table's count"
 unfoldable pub tokenOf : (tags : ℕ) → Counts → Checked → Checked
-tokenOf tags counts (Good t next) =
-    cond (ltb (tagOf t) tags)
+tokenOf tags counts c =
+    onChecked c
+    (λ t next. cond (ltb (tagOf t) tags)
     (cond (leb 1 (rowOf t) && leb (rowOf t) (rowsOf counts (tagOf t))) (Good t next) (Bad 8))
-    (Bad 7)
-tokenOf tags counts (Bad code) = Bad code
+    (Bad 7))
+    Bad
 
 unfoldable pub tokenAt : (tags : ℕ) → Counts → List ℕ → ℕ → Checked
 tokenAt tags counts s at = tokenOf tags counts (checkedAt s at)
+
+-- no rows in any table
+abbrev pub noCounts : Counts
+noCounts = record { defs = 0; refs = 0; specs = 0 }

@@ -6,7 +6,7 @@ use crate::Number;
 // A number that passed its checks and the offset after it, or the number of its refusal. The refusal's place is the number's start.
 pub enum Checked {
     Good { value: u32, next: usize },
-    Bad { code: u32 },
+    Bad { refusal: u32 },
 }
 
 // The number at the offset `at`. Most numbers have one byte, which is looked at first.
@@ -24,9 +24,9 @@ pub fn checked_at(s: &[u8], at: usize) -> Checked
     }
     match crate::number_at(s, at) {
         Number::Value { value, next } => Checked::Good { value, next },
-        Number::Cut => Checked::Bad { code: 2 },
-        Number::BadByte => Checked::Bad { code: 3 },
-        Number::TooLong => Checked::Bad { code: 3 },
+        Number::Cut => Checked::Bad { refusal: 2 },
+        Number::BadByte => Checked::Bad { refusal: 3 },
+        Number::TooLong => Checked::Bad { refusal: 3 },
     }
 }
 
@@ -37,13 +37,13 @@ pub fn count_at(s: &[u8], at: usize, low: u32, high: u32) -> Checked
     match checked_at(s, at) {
         Checked::Good { value, next } => {
             if value < low {
-                return Checked::Bad { code: 4 };
+                return Checked::Bad { refusal: 4 };
             }
             if high < value {
-                return Checked::Bad { code: 4 };
+                return Checked::Bad { refusal: 4 };
             }
             Checked::Good { value, next }
         }
-        Checked::Bad { code } => Checked::Bad { code },
+        Checked::Bad { refusal } => Checked::Bad { refusal },
     }
 }

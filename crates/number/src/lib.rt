@@ -1,11 +1,16 @@
-// Compressed numbers: reading one at any offset of a slice.
+// Compressed numbers: reading one at any offset of a slice. Writing one is in encoding.rt.
 ghost use mathlib.Core.Path.{_≡_};
 ghost use Prim.Native.Nat.{_<_};
 ghost use lib.ListN.{length, getD};
 ghost use Rattle.number.specs.Number.{numberAt, whole, value2, value4};
 
+pub mod blob;
 pub mod checked;
+pub mod encoding;
 pub mod token;
+
+// The greatest number that has an encoding.
+pub const MAX_NUMBER: u32 = 0x1FFFFFFF;
 
 // What stands where a number is due: its value and the offset after it; bytes that end before or inside it; a first byte that no
 // number has; a form longer than the value needs.

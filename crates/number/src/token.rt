@@ -1,13 +1,42 @@
 // Tokens: a row of one of three tables, as a number.
 ghost use mathlib.Core.Path.{_≡_};
-ghost use Rattle.number.specs.Token.{rowsOf, tokenAt};
+ghost use Rattle.number.specs.Token.{tagOf, rowOf, noCounts, rowsOf, tokenAt};
 use crate::checked::Checked;
+
+// The tags below these are good in VALUETYPE, CLASS and GENERICINST, and in a modifier.
+pub const TYPE_TAGS: u32 = 2;
+
+pub const MOD_TAGS: u32 = 3;
 
 // The row counts of the tables TypeDef, TypeRef and TypeSpec.
 pub struct Counts {
     pub defs: u32,
     pub refs: u32,
     pub specs: u32,
+}
+
+// No rows in any table.
+pub fn no_counts() -> Counts
+    ensures { λ r. ⌜ r ≡ noCounts ⌝ }
+{
+    Counts {
+        defs: 0,
+        refs: 0,
+        specs: 0,
+    }
+}
+
+// A token is its row times 4 plus its tag.
+pub fn tag_of(token: u32) -> u32
+    ensures { λ r. ⌜ r ≡ tagOf token ⌝ }
+{
+    token % 4
+}
+
+pub fn row_of(token: u32) -> u32
+    ensures { λ r. ⌜ r ≡ rowOf token ⌝ }
+{
+    token / 4
 }
 
 // The row count of the table that a tag names.
@@ -28,19 +57,19 @@ pub fn token_at(s: &[u8], at: usize, tags: u32, counts: Counts) -> Checked
 {
     match crate::checked::checked_at(s, at) {
         Checked::Good { value, next } => {
-            let tag = value % 4;
-            let row = value / 4;
+            let tag = tag_of(value);
+            let row = row_of(value);
             if tags <= tag {
-                return Checked::Bad { code: 7 };
+                return Checked::Bad { refusal: 7 };
             }
             if row == 0 {
-                return Checked::Bad { code: 8 };
+                return Checked::Bad { refusal: 8 };
             }
             if rows_of(counts, tag) < row {
-                return Checked::Bad { code: 8 };
+                return Checked::Bad { refusal: 8 };
             }
             Checked::Good { value, next }
         }
-        Checked::Bad { code } => Checked::Bad { code },
+        Checked::Bad { refusal } => Checked::Bad { refusal },
     }
 }

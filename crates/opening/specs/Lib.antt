@@ -1,1 +1,4 @@
+pub mod Code
 pub mod Open
+pub mod Lead
+pub mod Means

@@ -1,14 +1,15 @@
-// The panel: reads a deposit sheet from the file that its argument names, or from standard input, and prints its rows and presses.
+// The panel: reads a deposit sheet from the file that its argument names, or from standard input, and prints its rows and acknowledgements.
 ghost use mathlib.Core.Path.{_≡_};
 ghost use lib.ListN.{length};
 use libc::STDERR_FILENO;
 use libc::STDIN_FILENO;
 use libc::STDOUT_FILENO;
+use sheet::MAX_SHEET;
 
 // One byte more than a sheet may have, so that a longer one is told from one that just fits.
-const SHEET: usize = 65537;
+const SHEET: usize = MAX_SHEET + 1;
 
-// More than any sheet prints: eleven bytes for a press of one byte are the most.
+// More than any sheet prints: eleven bytes for an acknowledgement of one byte are the most.
 const PRINT: usize = 1048576;
 
 // How many bytes were read, or that a read failed.

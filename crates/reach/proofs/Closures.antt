@@ -14,7 +14,7 @@ use lib.Bits.{bitOr}
 use native.Mathlib.Numerals.{add-one}
 use Rattle.reach.specs.Reach.{thru}
 use Rattle.reach.specs.Closure.{ClosureOf}
-use Rattle.bits.specs.Bits.{at, bit}
+use Rattle.bits.specs.Bits.{bitAt, bit}
 use Rattle.reach.specs.Closing.{Written, Copied, RowsCopied, Ored, RowRelaxed, Relaxed}
 use Rattle.bits.proofs.BitLaws.{Apart, word-lt, pos-apart, bit-or}
 use Rattle.reach.proofs.Reaching.{thru-cong}
@@ -45,7 +45,7 @@ pub rows-copied-none : (w v : ℕ) (l t : List ℕ) → RowsCopied w v l t 0 l
 rows-copied-none w v l t = record { len = refl; done = λ r s h hs. absurd (omega arith) }
 
 pub rows-copied-more : {w v i : ℕ} {l₀ t l l′ : List ℕ} → RowsCopied w v l₀ t i l → Copied l t (i * w) (i * v) w l′ → RowsCopied w v l₀ t (i + 1) l′
-unfolding at
+unfolding bitAt
 rows-copied-more {w} {v} {i} {l₀} {t} {l} {l′} a b = record {
   len = b .len ∙ a .len;
   done = λ r s h hs. by-cases (ℕ-discrete r i)
@@ -56,15 +56,15 @@ rows-copied-more {w} {v} {i} {l₀} {t} {l} {l′} a b = record {
 
 -- ---- rows
 module _ (w k i : ℕ) (l₀ l : List ℕ) where
-  pub relaxed-or : at w l₀ i k ≡ true → Ored l₀ (i * w) (k * w) w l → RowRelaxed w k i l₀ l
-  unfolding at
+  pub relaxed-or : bitAt w l₀ i k ≡ true → Ored l₀ (i * w) (k * w) w l → RowRelaxed w k i l₀ l
+  unfolding bitAt
   relaxed-or hk o = record {
     len = o .len;
     here = λ s hs. rw (hk, o .done (s / 32) (word-lt hs)) (bit-or _ _ _);
     others = λ r s ne hs. ap (λ (x : ℕ). bit x (s % 32)) (o .rest (r * w + s / 32) (pos-apart w r i (s / 32) ne (word-lt hs)));
   }
 
-  pub relaxed-not : at w l₀ i k ≡ false → RowRelaxed w k i l₀ l₀
+  pub relaxed-not : bitAt w l₀ i k ≡ false → RowRelaxed w k i l₀ l₀
   relaxed-not hk = record { len = refl; here = λ s hs. rw hk (sym (or-false _)); others = λ r s ne hs. refl }
 
 absorb : (a b : Bool) → a ≡ (a || (b && a))
@@ -73,35 +73,35 @@ absorb false true = refl
 absorb false false = refl
 
 pub relaxed-self : (w k : ℕ) (l : List ℕ) → RowRelaxed w k k l l
-relaxed-self w k l = record { len = refl; here = λ s hs. absorb (at w l k s) (at w l k k); others = λ r s ne hs. refl }
+relaxed-self w k l = record { len = refl; here = λ s hs. absorb (bitAt w l k s) (bitAt w l k k); others = λ r s ne hs. refl }
 
 pub relaxed-none : (w n k : ℕ) (l : List ℕ) → Relaxed w n k l 0 l
 relaxed-none w n k l = record { len = refl; done = λ r s h hs. absurd (omega arith); rest = λ r s h hn hs. refl }
 
 module _ {w n k i : ℕ} {l₀ l l′ : List ℕ} (a : Relaxed w n k l₀ i l) (b : RowRelaxed w k i l l′) (hi : i < n) (hk : k < n) (nw : n ≤ 32 * w) where
   -- row k is as it was
-  row-k : (s : ℕ) → s < 32 * w → at w l k s ≡ at w l₀ k s
+  row-k : (s : ℕ) → s < 32 * w → bitAt w l k s ≡ bitAt w l₀ k s
   row-k s hs =
-      by-cases (decLt k i) (λ (h : k < i). a .done k s h hs ∙ sym (absorb (at w l₀ k s) (at w l₀ k k))) (λ nh. a .rest k s (omega arith) hk hs)
+      by-cases (decLt k i) (λ (h : k < i). a .done k s h hs ∙ sym (absorb (bitAt w l₀ k s) (bitAt w l₀ k k))) (λ nh. a .rest k s (omega arith) hk hs)
 
-  row-i : (s : ℕ) → s < 32 * w → at w l′ i s ≡ (at w l₀ i s || (at w l₀ i k && at w l₀ k s))
+  row-i : (s : ℕ) → s < 32 * w → bitAt w l′ i s ≡ (bitAt w l₀ i s || (bitAt w l₀ i k && bitAt w l₀ k s))
   row-i s hs =
-      let e₁ : at w l i s ≡ at w l₀ i s = a .rest i s (le-refl i) hi hs in
-      let e₂ : at w l i k ≡ at w l₀ i k = a .rest i k (le-refl i) hi (omega arith) in
+      let e₁ : bitAt w l i s ≡ bitAt w l₀ i s = a .rest i s (le-refl i) hi hs in
+      let e₂ : bitAt w l i k ≡ bitAt w l₀ i k = a .rest i k (le-refl i) hi (omega arith) in
       b .here s hs ∙ rw (e₁, e₂, row-k s hs)
 
   pub relaxed-more : Relaxed w n k l₀ (i + 1) l′
   relaxed-more = record {
     len = b .len ∙ a .len;
     done = λ r s h hs. by-cases (ℕ-discrete r i)
-        (λ e. subst (λ (x : ℕ). at w l′ x s ≡ (at w l₀ x s || (at w l₀ x k && at w l₀ k s))) (sym e) (row-i s hs))
+        (λ e. subst (λ (x : ℕ). bitAt w l′ x s ≡ (bitAt w l₀ x s || (bitAt w l₀ x k && bitAt w l₀ k s))) (sym e) (row-i s hs))
         (λ ne. b .others r s ne hs ∙ a .done r s (omega arith) hs);
     rest = λ r s h hn hs. b .others r s (omega arith) hs ∙ a .rest r s (omega arith) hn hs;
   }
 
 -- l holds what l₀ reaches by rows below k
 abbrev pub Closed : ℕ → ℕ → List ℕ → ℕ → List ℕ → Type 0
-Closed w n l₀ k l = (r s : ℕ) → r < n → s < 32 * w → at w l r s ≡ thru (at w l₀) k r s
+Closed w n l₀ k l = (r s : ℕ) → r < n → s < 32 * w → bitAt w l r s ≡ thru (bitAt w l₀) k r s
 
 pub closed-none : (w n : ℕ) (l : List ℕ) → Closed w n l 0 l
 unfolding thru
@@ -115,4 +115,4 @@ closed-more w n k l₀ l l′ nw hk c x r s hr hs =
 -- a copy of the n rows, closed
 pub closure-of : (w v n : ℕ) (sets l₀ l m : List ℕ) → n ≤ 32 * w → RowsCopied w v l₀ sets n l → Closed w n l n m → ClosureOf w v n sets m
 closure-of w v n sets l₀ l m nw h c r s hr hs =
-    c r s hr (omega arith) ∙ thru-cong n (at w l) (at v sets) (λ i j hi hj. h .done i j hi (omega arith)) n (le-refl n) r s hr hs
+    c r s hr (omega arith) ∙ thru-cong n (bitAt w l) (bitAt v sets) (λ i j hi hj. h .done i j hi (omega arith)) n (le-refl n) r s hr hs

@@ -6,7 +6,7 @@ use mathlib.Core.Bool.{_||_, _&&_}
 use mathlib.Core.Logic.{_⊎_}
 use lib.ListN.{length, getD}
 use lib.Bits.{bitOr}
-use Rattle.bits.specs.Bits.{at}
+use Rattle.bits.specs.Bits.{wordBits, bitAt}
 
 -- l is l₀ with f y in the first x places d + y
 pub record Written (l₀ : List ℕ) (d : ℕ) (f : ℕ → ℕ) (x : ℕ) (l : List ℕ) : Type 0 where
@@ -25,16 +25,16 @@ Ored l₀ d s x l = Written l₀ d (λ y. bitOr (getD l₀ (d + y) 0) (getD l₀
 -- l is as long as l₀, and its first i rows, w words to a row, have the bits of those of t, v to a row
 pub record RowsCopied (w v : ℕ) (l₀ t : List ℕ) (i : ℕ) (l : List ℕ) : Type 0 where
   pub len : length l ≡ length l₀
-  pub done : (r s : ℕ) → r < i → s < 32 * w → at w l r s ≡ at v t r s
+  pub done : (r s : ℕ) → r < i → s < wordBits * w → bitAt w l r s ≡ bitAt v t r s
 
 -- l is l₀ with row i relaxed by row k
 pub record RowRelaxed (w k i : ℕ) (l₀ l : List ℕ) : Type 0 where
   pub len : length l ≡ length l₀
-  pub here : (s : ℕ) → s < 32 * w → at w l i s ≡ (at w l₀ i s || (at w l₀ i k && at w l₀ k s))
-  pub others : (r s : ℕ) → (r ≡ i → ⊥) → s < 32 * w → at w l r s ≡ at w l₀ r s
+  pub here : (s : ℕ) → s < wordBits * w → bitAt w l i s ≡ (bitAt w l₀ i s || (bitAt w l₀ i k && bitAt w l₀ k s))
+  pub others : (r s : ℕ) → (r ≡ i → ⊥) → s < wordBits * w → bitAt w l r s ≡ bitAt w l₀ r s
 
 -- l is l₀ with its first i rows of n relaxed by row k
 pub record Relaxed (w n k : ℕ) (l₀ : List ℕ) (i : ℕ) (l : List ℕ) : Type 0 where
   pub len : length l ≡ length l₀
-  pub done : (r s : ℕ) → r < i → s < 32 * w → at w l r s ≡ (at w l₀ r s || (at w l₀ r k && at w l₀ k s))
-  pub rest : (r s : ℕ) → i ≤ r → r < n → s < 32 * w → at w l r s ≡ at w l₀ r s
+  pub done : (r s : ℕ) → r < i → s < wordBits * w → bitAt w l r s ≡ (bitAt w l₀ r s || (bitAt w l₀ r k && bitAt w l₀ k s))
+  pub rest : (r s : ℕ) → i ≤ r → r < n → s < wordBits * w → bitAt w l r s ≡ bitAt w l₀ r s

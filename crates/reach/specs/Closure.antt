@@ -2,9 +2,9 @@
 use Prim.Native.Nat.{ℕ, _<_}
 use mathlib.Core.Path.{_≡_}
 use mathlib.Core.List.{List}
-use Rattle.bits.specs.Bits.{at}
+use Rattle.bits.specs.Bits.{bitAt}
 use Rattle.reach.specs.Reach.{thru}
 
 -- m has, w words to a row, what each of the first n rows of `sets`, v words to a row, reaches among them. Bits of other rows are not looked at.
 abbrev pub ClosureOf : (w v n : ℕ) → (sets m : List ℕ) → Type 0
-ClosureOf w v n sets m = (r s : ℕ) → r < n → s < n → at w m r s ≡ thru (at v sets) n r s
+ClosureOf w v n sets m = (r s : ℕ) → r < n → s < n → bitAt w m r s ≡ thru (bitAt v sets) n r s

@@ -3,11 +3,11 @@ ghost use mathlib.Core.Path.{_≡_};
 ghost use mathlib.Core.Logic.{_⊎_};
 ghost use Prim.Native.Nat.{ℕ, _+_, _*_, _≤_, _<_};
 ghost use lib.ListN.{length};
-ghost use Rattle.bits.specs.Bits.{at};
+ghost use Rattle.bits.specs.Bits.{wordBits, bitAt};
 ghost use Rattle.reach.specs.Reach.{thru};
 ghost use Rattle.reach.specs.Closure.{ClosureOf};
 ghost use Rattle.reach.specs.Closing.{Copied, RowsCopied, Ored, RowRelaxed, Relaxed};
-use bits::get;
+use bits::bit_at;
 
 // Words d.. get those of s.. too; the two runs do not overlap.
 fn or_words(m: &mut [u32], d: usize, s: usize, w: usize)
@@ -21,20 +21,20 @@ fn or_words(m: &mut [u32], d: usize, s: usize, w: usize)
 
 // Row i gets the bits of row k if it has bit k.
 fn relax_row(m: &mut [u32], n: usize, w: usize, k: usize, i: usize)
-    requires { ⌜ (n * w ≤ length (now m)) × (n ≤ 32 * w) × (k < n) × (i < n) ⌝ }
+    requires { ⌜ (n * w ≤ length (now m)) × (n ≤ wordBits * w) × (k < n) × (i < n) ⌝ }
     ensures { λ _. ⌜ RowRelaxed w k i (now (m .entry)) (now (m .exit)) ⌝ }
 {
     if i == k {
         return;
     }
-    if get(m, w, i, k) {
+    if bit_at(m, w, i, k) {
         or_words(m, i * w, k * w, w);
     }
 }
 
 // One step of the closure: every row that has bit k gets the bits of row k.
 fn relax(m: &mut [u32], n: usize, w: usize, k: usize)
-    requires { ⌜ (n * w ≤ length (now m)) × (n ≤ 32 * w) × (k < n) ⌝ }
+    requires { ⌜ (n * w ≤ length (now m)) × (n ≤ wordBits * w) × (k < n) ⌝ }
     ensures { λ _. ⌜ Relaxed w n k (now (m .entry)) n (now (m .exit)) ⌝ }
 {
     for i in 0..n {
@@ -44,8 +44,8 @@ fn relax(m: &mut [u32], n: usize, w: usize, k: usize)
 
 // The table becomes that of reaching.
 fn close(m: &mut [u32], n: usize, w: usize)
-    requires { ⌜ (n * w ≤ length (now m)) × (n ≤ 32 * w) ⌝ }
-    ensures { λ _. ⌜ ((r s : ℕ) → r < n → s < 32 * w → at w (now (m .exit)) r s ≡ thru (at w (now (m .entry))) n r s) ⌝ }
+    requires { ⌜ (n * w ≤ length (now m)) × (n ≤ wordBits * w) ⌝ }
+    ensures { λ _. ⌜ ((r s : ℕ) → r < n → s < wordBits * w → bitAt w (now (m .exit)) r s ≡ thru (bitAt w (now (m .entry))) n r s) ⌝ }
 {
     for k in 0..n {
         relax(m, n, w, k);
@@ -74,7 +74,7 @@ fn copy_rows(m: &mut [u32], w: usize, from: &[u32], v: usize, n: usize)
 
 // m becomes the table, w words to a row, of what the first n rows of `sets`, v words to a row, reach among themselves.
 pub fn closure(m: &mut [u32], w: usize, sets: &[u32], v: usize, n: usize)
-    requires { ⌜ (n * w ≤ length (now m)) × (n * v ≤ length (now sets)) × (w ≤ v) × (n ≤ 32 * w) ⌝ }
+    requires { ⌜ (n * w ≤ length (now m)) × (n * v ≤ length (now sets)) × (w ≤ v) × (n ≤ wordBits * w) ⌝ }
     ensures { λ _. ⌜ ClosureOf w v n (now (sets .entry)) (now (m .exit)) ⌝ }
 {
     copy_rows(m, w, sets, v, n);

@@ -12,12 +12,13 @@ use Rattle.grammar.specs.Table.{flat}
 use Rattle.grammar.specs.Judge.{Out, fault, done, bind, check, judge, reading}
 use Rattle.grammar.proofs.Sound.{Holds, holds}
 use Rattle.grammar.proofs.Bounds.{Ends, ends-judge}
-use Rattle.grammar.proofs.Refusals.{judge-refuses}
+use Rattle.grammar.proofs.Refusals.{judge-refuses, refusal-byte}
 use Rattle.walk.specs.Walk.{leaves}
 use Rattle.walk.proofs.Stamp.{stamp-flat}
-use Rattle.reader.specs.Answer.{answer, answerOf, tableOf}
+use Rattle.answer.specs.Answers.{answer}
+use Rattle.reader.specs.Answer.{answerOf, tableOf}
 use Rattle.reader.specs.Blob.{Judged}
-use Rattle.reader.specs.declared.Answer.{Answer}
+use Rattle.answer.specs.declared.Answer.{Answer}
 
 -- what read answers and leaves, of any outcome of the judge
 abbrev lending : ℕ → Out → Out
@@ -67,7 +68,7 @@ home (a ∷ l) o h = absurd (omega arith)
 -- o is the table, and l the same table after the first walk
 module _ (kind : ℕ) (counts : Counts) (s : List ℕ) (r : Answer) (l o o₀ o₁ : List ℕ) (same : l ≡ o) (x : Judged (judge kind counts s) r o₀ o₁) where
   refuses : (c p : ℕ) → judge kind counts s ≡ fault c p → 1 ≤ c
-  refuses c p e = judge-refuses kind counts s c p e .0 .0
+  refuses c p e = refusal-byte c (judge-refuses kind counts s c p e .0) .0
 
   pub read-refused : (r .code ≡ 0 → ⊥) → (r ≡ answerOf (reading kind counts s (length o / 6))) × (l ≡ tableOf (reading kind counts s (length o / 6)) o)
   unfolding reading

@@ -1,4 +1,4 @@
--- Each way through `blob_at`, as one law over plain values. A need cites one of them, with `_` for what the goal shows.
+-- Each way through `judge_in`, as one law over plain values. A need cites one of them, with `_` for what the goal shows.
 -- Assumes nothing.
 use Prim.Native.Nat.{ℕ, _≤_, _<_}
 use mathlib.Core.Path.{_≡_, refl, sym, ap, _∙_}
@@ -10,13 +10,14 @@ use borrow.Author.Tests.{le-leb, lt-leb, eq-eqb, ne-eqb}
 use Rattle.number.specs.declared.token.Counts.{Counts}
 use Rattle.grammar.specs.Kinds.{maxKind, rootOf}
 use Rattle.grammar.specs.Limits.{maxBytes, maxDepth}
-use Rattle.grammar.specs.Judge.{Out, fault, done, bind, check, node, known, judge}
+use Rattle.grammar.specs.Judge.{Out, fault, done, bind, check, node, knownCounts, judge}
 use Rattle.walk.specs.Walk.{leaves, walkOf, Walked}
 use Rattle.walk.specs.declared.Walk.{Walk}
 use Rattle.walk.specs.declared.Walk.the-variants.{Next, Stop}
 use Rattle.walk.proofs.Stamp.{length-stamp}
 use Rattle.walk.proofs.Laws.{clash}
-use Rattle.reader.specs.Answer.{answer, answerOf}
+use Rattle.answer.specs.Answers.{answer}
+use Rattle.reader.specs.Answer.{answerOf}
 use Rattle.reader.specs.Blob.{Judged}
 
 -- the judge once the root is read: 9 where bytes are left over
@@ -60,11 +61,11 @@ module _ (kind : ℕ) (counts : Counts) (s o : List ℕ) where
   unknown-kind h = judged-fault 12 0 (rw (lt-leb kind maxKind h))
 
   module _ (h : kind ≤ maxKind) where
-    pub too-many-rows : known counts ≡ false → Judged (judge kind counts s) (answer 13 0) o o
+    pub too-many-rows : knownCounts counts ≡ false → Judged (judge kind counts s) (answer 13 0) o o
     unfolding judge
     too-many-rows k = judged-fault 13 0 (rw (le-leb kind maxKind h, k))
 
-    module _ (k : known counts ≡ true) where
+    module _ (k : knownCounts counts ≡ true) where
       pub too-long : maxBytes < length s → Judged (judge kind counts s) (answer 1 0) o o
       unfolding judge
       too-long l = judged-fault 1 0 (rw (le-leb kind maxKind h, k, lt-leb (length s) maxBytes l))

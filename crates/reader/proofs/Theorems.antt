@@ -16,9 +16,11 @@ use Rattle.grammar.specs.declared.Node.{Node}
 use Rattle.grammar.proofs.Reading.{read-accepted, read-derivable, accepted, derivable}
 use Rattle.grammar.proofs.Sound.{holds-done}
 use Rattle.grammar.proofs.Bounds.{ends-judge, ends-reading}
-use Rattle.grammar.proofs.Refusals.{Refusal, judge-refuses, read-refuses}
-use Rattle.reader.specs.Answer.{answer, answerOf, tableOf}
-use Rattle.reader.specs.declared.Answer.{Answer}
+use Rattle.grammar.specs.Refusals.{Refusal}
+use Rattle.grammar.proofs.Refusals.{judge-refuses, read-refuses, refusal-byte}
+use Rattle.answer.specs.Answers.{answer}
+use Rattle.reader.specs.Answer.{answerOf, tableOf}
+use Rattle.answer.specs.declared.Answer.{Answer}
 
 -- What `read` answers and leaves: the table of the one derivation, or a refusal of the list and the table as it was. There is no third.
 pub data Verdict (kind : ℕ) (counts : Counts) (s t : List ℕ) : Answer → List ℕ → Type 0 where
@@ -52,7 +54,7 @@ module _ (kind : ℕ) (counts : Counts) (s t : List ℕ) where
     where
       go : (r : Answer) (u : List ℕ) → Verdict kind counts s t r u → r .code ≡ 0 → (n : ℕ) × (rs : List Node) × Signature kind counts s n rs × (n ≤ length t / 6)
       go r u (derived n rs g l) z = (n, rs, g, l)
-      go r u (refused code place h f) z = absurd (omega (arith, h))
+      go r u (refused code place h f) z = absurd (omega (arith, refusal-byte code h))
 
 -- without a table: 0 and the nodes exactly when the grammar derives the blob
 module _ (kind : ℕ) (counts : Counts) (s : List ℕ) where
@@ -65,7 +67,7 @@ module _ (kind : ℕ) (counts : Counts) (s : List ℕ) where
   judge-zero bytes z = go (judge kind counts s) refl z
     where
       go : (o : Out) → judge kind counts s ≡ o → answerOf o .code ≡ 0 → (n : ℕ) × (rs : List Node) × Signature kind counts s n rs
-      go (fault code place) e z = let h = judge-refuses kind counts s code place e .0 in absurd (omega arith)
+      go (fault code place) e z = let h = refusal-byte code (judge-refuses kind counts s code place e .0) in absurd (omega arith)
       go (done at n rs) e z = (n, rs, accepted kind counts s bytes at n rs e .1)
 
 -- the place of an answer is at most 4,096

@@ -1,14 +1,14 @@
 // A whole blob, walked over and answered: for `judge`, `read` and `has_table`, which lend it their records.
 ghost use Rattle.grammar.specs.Judge.{judge};
 ghost use Rattle.reader.specs.Blob.{Judged};
-use crate::Answer;
+use answer::Answer;
 use grammar::MAX_BYTES;
 use grammar::MAX_KIND;
 use number::token::Counts;
 use walk::Walk;
 
 // The whole blob, with the records put into `out` where they fit: 12, 13, 1, the first fault from the left, 9.
-pub fn blob_at(out: &mut [u32], kind: u32, counts: Counts, src: &[u8]) -> Answer
+pub fn judge_in(out: &mut [u32], kind: u32, counts: Counts, src: &[u8]) -> Answer
     ensures { λ r. ⌜ Judged (judge kind counts (now (src .entry))) r (now (out .entry)) (now (out .exit)) ⌝ }
 {
     if MAX_KIND < kind {
@@ -28,7 +28,10 @@ pub fn blob_at(out: &mut [u32], kind: u32, counts: Counts, src: &[u8]) -> Answer
                 }
                 Answer { code: 9, place: at }
             }
-            Walk::Stop { code, place } => Answer { code, place },
+            Walk::Stop { refusal, at } => Answer {
+                code: refusal,
+                place: at,
+            },
         };
     }
     Answer { code: 13, place: 0 }

@@ -3,31 +3,26 @@ ghost use mathlib.Core.Path.{_≡_};
 ghost use Prim.Native.Nat.{_/_};
 ghost use lib.ListN.{length};
 ghost use Rattle.grammar.specs.Judge.{judge as judgement, reading};
-ghost use Rattle.reader.specs.Answer.{answerOf, tableOf};
+ghost use Rattle.reader.specs.Answer.{answerOf, Reads};
+use answer::Answer;
 use number::token::Counts;
 
 mod blob;
 pub mod table;
-
-// The panel's number and its place: 0 with the number of nodes, or a refusal.
-pub struct Answer {
-    pub code: u32,
-    pub place: usize,
-}
 
 // Judges a blob of this kind under these row counts, without a table.
 pub fn judge(kind: u32, counts: Counts, blob: &[u8]) -> Answer
     ensures { λ r. ⌜ r ≡ answerOf (judgement kind counts (now (blob .entry))) ⌝ }
 {
     let mut none = [0u32; 1];
-    blob::blob_at(&mut none[..0], kind, counts, blob)
+    blob::judge_in(&mut none[..0], kind, counts, blob)
 }
 
 // Reads a blob into the table that is lent, six numbers to a record. A refusal leaves the table as it was.
 pub fn read(kind: u32, counts: Counts, blob: &[u8], table: &mut [u32]) -> Answer
-    ensures { λ r. ⌜ (r ≡ answerOf (reading kind counts (now (blob .entry)) (length (now (table .entry)) / 6))) × (now (table .exit) ≡ tableOf (reading kind counts (now (blob .entry)) (length (now (table .entry)) / 6)) (now (table .entry))) ⌝ }
+    ensures { λ r. ⌜ Reads (reading kind counts (now (blob .entry)) (length (now (table .entry)) / 6)) r (now (table .entry)) (now (table .exit)) ⌝ }
 {
-    let judged = blob::blob_at(&mut table[..0], kind, counts, blob);
+    let judged = blob::judge_in(&mut table[..0], kind, counts, blob);
     let code = judged.code;
     let nodes = judged.place;
     if code != 0 {
@@ -39,5 +34,5 @@ pub fn read(kind: u32, counts: Counts, blob: &[u8], table: &mut [u32]) -> Answer
             place: nodes,
         };
     }
-    blob::blob_at(table, kind, counts, blob)
+    blob::judge_in(table, kind, counts, blob)
 }

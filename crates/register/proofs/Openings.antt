@@ -6,19 +6,19 @@ use mathlib.Core.Bool.{Bool, true, false, cond, _||_}
 use native.Mathlib.Omega.{arith}
 use lib.Dec.{ltb, eqb}
 use borrow.Author.Tests.{ltb-false}
-use Rattle.grammar.specs.Limits.{maxRows}
+use Rattle.number.specs.declared.token.Counts.{Counts}
 use Rattle.answer.specs.Size.{maxSize, words}
-use Rattle.register.specs.Calls.{openCode}
+use Rattle.register.specs.Calls.{tooMany, openCode}
 
-module _ (defs refs rows lent : ℕ) where
-  open-cases : (a b c d : Bool) → ltb maxSize rows ≡ c → ltb lent (rows * words) ≡ d
-      → _≡_ {A = ℕ} (cond a 13 (cond (b || c) 19 (cond d 27 0))) 0 → (rows ≤ maxSize) × (rows * words ≤ lent)
+module _ (counts : Counts) (lent : ℕ) where
+  open-cases : (a b c d : Bool) → ltb maxSize (counts .specs) ≡ c → ltb lent (counts .specs * words) ≡ d
+      → _≡_ {A = ℕ} (cond a 13 (cond (b || c) 19 (cond d 27 0))) 0 → (counts .specs ≤ maxSize) × (counts .specs * words ≤ lent)
   open-cases true b c d e f z = absurd (omega arith)
   open-cases false true c d e f z = absurd (omega arith)
   open-cases false false true d e f z = absurd (omega arith)
   open-cases false false false true e f z = absurd (omega arith)
-  open-cases false false false false e f z = (ltb-false maxSize rows e, ltb-false lent (rows * words) f)
+  open-cases false false false false e f z = (ltb-false maxSize (counts .specs) e, ltb-false lent (counts .specs * words) f)
 
-  pub open-ok : openCode defs refs rows lent ≡ 0 → (rows ≤ maxSize) × (rows * words ≤ lent)
+  pub open-ok : openCode counts lent ≡ 0 → (counts .specs ≤ maxSize) × (counts .specs * words ≤ lent)
   unfolding openCode
-  open-ok h = open-cases (ltb maxRows defs || ltb maxRows refs) (eqb rows 0) (ltb maxSize rows) (ltb lent (rows * words)) refl refl h
+  open-ok h = open-cases (tooMany counts) (eqb (counts .specs) 0) (ltb maxSize (counts .specs)) (ltb lent (counts .specs * words)) refl refl h

@@ -12,30 +12,30 @@ use Rattle.reach.proofs.Bools.{or-right}
 use Rattle.standing.specs.Standing.{any, filled, markedIn}
 use Rattle.standing.proofs.Standings.{cleared-unmarked, getD-filled}
 use Rattle.answer.specs.Size.{maxSize, words}
-use Rattle.register.specs.Calls.{marksAfter, standingOf, standingsOf}
+use Rattle.register.specs.Calls.{marksAfter, standingAt, standingsOf}
 use Rattle.register.specs.declared.Register.{Register}
 
 module _ (g : Register) (l : List ℕ) where
-  pub standings-above : maxSize < g .rows → replicate maxSize 0 ≡ standingsOf g l
+  pub standings-above : maxSize < g .counts .specs → replicate maxSize 0 ≡ standingsOf g l
   unfolding standingsOf
   standings-above h = rw (lt-ltb _ _ h)
 
-  pub standings-few : length l < g .rows * words → replicate maxSize 0 ≡ standingsOf g l
+  pub standings-few : length l < g .counts .specs * words → replicate maxSize 0 ≡ standingsOf g l
   unfolding standingsOf
-  standings-few h = let e : (ltb maxSize (g .rows) || ltb (length l) (g .rows * words)) ≡ true = or-right (ltb maxSize (g .rows)) (lt-ltb _ _ h) in rw e
+  standings-few h = let e : (ltb maxSize (g .counts .specs) || ltb (length l) (g .counts .specs * words)) ≡ true = or-right (ltb maxSize (g .counts .specs)) (lt-ltb _ _ h) in rw e
 
-  module _ (le : g .rows ≤ maxSize) (enough : g .rows * words ≤ length l) where
-    pub standings-all : (all : List ℕ) → all ≡ filled (replicate maxSize 0) (g .rows) (λ i. standingOf g i l) → all ≡ standingsOf g l
+  module _ (le : g .counts .specs ≤ maxSize) (enough : g .counts .specs * words ≤ length l) where
+    pub standings-all : (all : List ℕ) → all ≡ filled (replicate maxSize 0) (g .counts .specs) (λ i. standingAt g i l) → all ≡ standingsOf g l
     unfolding standingsOf
-    standings-all all e = rw (le-ltb maxSize (g .rows) le, le-ltb (length l) (g .rows * words) enough) e
+    standings-all all e = rw (le-ltb maxSize (g .counts .specs) le, le-ltb (length l) (g .counts .specs * words) enough) e
 
     -- the standing of a row among them
-    pub standings-at : (i : ℕ) → i < g .rows → getD (standingsOf g l) i 0 ≡ standingOf g i l
+    pub standings-at : (i : ℕ) → i < g .counts .specs → getD (standingsOf g l) i 0 ≡ standingAt g i l
     unfolding standingsOf
     standings-at i hi =
-        rw (le-ltb maxSize (g .rows) le, le-ltb (length l) (g .rows * words) enough)
-        (getD-filled (replicate maxSize 0) (g .rows) (λ j. standingOf g j l) i hi (omega (arith, length-replicate {A = ℕ} maxSize 0)))
+        rw (le-ltb maxSize (g .counts .specs) le, le-ltb (length l) (g .counts .specs * words) enough)
+        (getD-filled (replicate maxSize 0) (g .counts .specs) (λ j. standingAt g j l) i hi (omega (arith, length-replicate {A = ℕ} maxSize 0)))
 
-  pub marks-none : (i : ℕ) → any (g .rows) (markedIn (g .marks)) ≡ false → g .marks ≡ marksAfter g i l
+  pub marks-none : (i : ℕ) → any (g .counts .specs) (markedIn (g .marks)) ≡ false → g .marks ≡ marksAfter g i l
   unfolding marksAfter
-  marks-none i h = sym (cleared-unmarked (g .marks) (g .rows) _ h)
+  marks-none i h = sym (cleared-unmarked (g .marks) (g .counts .specs) _ h)

@@ -3,18 +3,20 @@
 use Prim.Native.Nat.{ℕ, _-_, _*_, _≤_, _<_}
 use mathlib.Core.List.{List}
 use mathlib.Core.Option.{some}
-use mathlib.Core.Bool.{cond, _||_}
+use mathlib.Core.Bool.{Bool, cond, _||_}
 use lib.ListN.{length, set, getD, replicate}
 use lib.Dec.{ltb, eqb}
 use Rattle.reach.specs.Reach.{Graph, thru}
-use Rattle.bits.specs.Bits.{at, zeroed}
+use Rattle.bits.specs.Bits.{bitAt, clearWords}
 use Rattle.standing.specs.Standing.{standing, cleared, filled}
+use Rattle.number.specs.Token.{noCounts}
+use Rattle.number.specs.declared.token.Counts.{Counts}
 use Rattle.grammar.specs.Limits.{maxRows}
 use Rattle.grammar.specs.Judge.{Out}
 use Rattle.answer.specs.Size.{maxSize, words}
 use Rattle.filing.specs.Outcome.{stateOf, codeOf, placeOf}
 use Rattle.filing.specs.Named.{namedBy}
-use Rattle.answer.specs.Answers.{gate, ackCode, told, askedOf}
+use Rattle.answer.specs.Answers.{admitCode, ackCode, told, askedOf}
 use Rattle.register.specs.declared.Register.{Register}
 use Rattle.register.specs.declared.Changed.{Changed}
 use Rattle.answer.specs.declared.Asked.{Asked}
@@ -40,12 +42,10 @@ holding g l = record { register = g; sets = l }
 abbrev pub held : Left → Held
 held x = holding (x .changed .register) (x .sets)
 
--- a register with these counts and rows, nothing filed and nothing marked
-abbrev pub blank : (defs refs rows : ℕ) → Register
-blank defs refs rows = record {
-  defs = defs;
-  refs = refs;
-  rows = rows;
+-- a register with these counts, nothing filed and nothing marked
+abbrev pub blankRegister : Counts → Register
+blankRegister counts = record {
+  counts = counts;
   states = replicate maxSize 0;
   codes = replicate maxSize 0;
   places = replicate maxSize 0;
@@ -55,36 +55,38 @@ blank defs refs rows = record {
 abbrev pub changed : ℕ → Register → Changed
 changed code g = record { code = code; register = g }
 
+-- 13, a table count out of bounds: of TypeSpec, the number of rows, the size decides
+unfoldable pub tooMany : Counts → Bool
+tooMany counts = ltb maxRows (counts .defs) || ltb maxRows (counts .refs)
+
 -- "Opening a register: 13, 19"; document 02, wish 8: "fewer than 16 32-bit numbers for each row .. of the size asked at opening, is refusal 27
 -- at 0, after 19"; else 0
-unfoldable pub openCode : (defs refs rows lent : ℕ) → ℕ
-openCode defs refs rows lent =
-    cond (ltb maxRows defs || ltb maxRows refs) 13 (cond (eqb rows 0 || ltb maxSize rows) 19 (cond (ltb lent (rows * words)) 27 0))
+unfoldable pub openCode : (counts : Counts) (lent : ℕ) → ℕ
+openCode counts lent =
+    cond (tooMany counts) 13 (cond (eqb (counts .specs) 0 || ltb maxSize (counts .specs)) 19 (cond (ltb lent (counts .specs * words)) 27 0))
 
 -- an opening's answer, register and numbers: "a refused opening hands back a register of 0 rows". Opening clears the numbers of its rows.
-unfoldable pub openOf : (defs refs rows : ℕ) → List ℕ → Left
-openOf defs refs rows l =
-    cond (eqb (openCode defs refs rows (length l)) 0) (left (changed 0 (blank defs refs rows)) (zeroed l 0 (rows * words)))
-    (left (changed (openCode defs refs rows (length l)) (blank 0 0 0)) l)
+unfoldable pub openOf : Counts → List ℕ → Left
+openOf counts l =
+    cond (eqb (openCode counts (length l)) 0) (left (changed 0 (blankRegister counts)) (clearWords l 0 (counts .specs * words)))
+    (left (changed (openCode counts (length l)) (blankRegister noCounts)) l)
 
 -- row i is a row of the register, and the numbers lent are enough for all of them: what the functions behind the calls require
 abbrev pub Inside : Register → ℕ → List ℕ → Type 0
-Inside g i l = (g .rows ≤ maxSize) × (i < g .rows) × (g .rows * words ≤ length l)
+Inside g i l = (g .counts .specs ≤ maxSize) × (i < g .counts .specs) × (g .counts .specs * words ≤ length l)
 
 -- row i refers to row j, by the sets lent
 abbrev pub refers : List ℕ → Graph
-refers l = at words l
+refers l = bitAt words l
 
 -- the marks after row i is filed: "Filing r unmarks r and every row that reaches r"
 unfoldable pub marksAfter : Register → ℕ → List ℕ → List ℕ
-marksAfter g i l = cleared (g .marks) (g .rows) (λ j. eqb j i || thru (refers l) (g .rows) j i)
+marksAfter g i l = cleared (g .marks) (g .counts .specs) (λ j. eqb j i || thru (refers l) (g .counts .specs) j i)
 
 -- row i filed with a blob whose judging gives o: "keeps refusal number and place"
 unfoldable pub filed : Register → ℕ → Out → List ℕ → Register
 filed g i o l = record {
-  defs = g .defs;
-  refs = g .refs;
-  rows = g .rows;
+  counts = g .counts;
   states = set (g .states) i (stateOf (some o));
   codes = set (g .codes) i (codeOf (some o));
   places = set (g .places) i (placeOf (some o));
@@ -93,50 +95,48 @@ filed g i o l = record {
 
 -- "or the set of TypeSpec rows its modifiers name": row i's own numbers, and no other
 abbrev pub filedSets : ℕ → Out → List ℕ → List ℕ
-filedSets i o l = namedBy words o i l
+filedSets i o l = namedBy o i l
 
-abbrev pub filedAt : Register → ℕ → Out → List ℕ → Left
-filedAt g i o l = left (changed 0 (filed g i o l)) (filedSets i o l)
+abbrev pub fileAt : Register → ℕ → Out → List ℕ → Left
+fileAt g i o l = left (changed 0 (filed g i o l)) (filedSets i o l)
 
 -- "Filing row r (16, else 0) judges the blob as kind 0"
 unfoldable pub fileOf : Register → ℕ → List ℕ → List ℕ → Left
 fileOf g row blob l =
-    cond (eqb (gate (length l) (g .rows) row) 0) (filedAt g (row - 1) (judged (g .defs) (g .refs) (g .rows) blob) l)
-    (left (changed (gate (length l) (g .rows) row) g) l)
+    cond (eqb (admitCode (length l) (g .counts .specs) row) 0) (fileAt g (row - 1) (judged (g .counts) blob) l)
+    (left (changed (admitCode (length l) (g .counts .specs) row) g) l)
 
-abbrev pub standingOf : Register → ℕ → List ℕ → ℕ
-standingOf g i l = standing (g .rows) (λ j. getD (g .states) j 0) (refers l) i
+abbrev pub standingAt : Register → ℕ → List ℕ → ℕ
+standingAt g i l = standing (g .counts .specs) (λ j. getD (g .states) j 0) (refers l) i
 
 -- the standings of all rows, in their order: 0 behind the last row, and for a size above the greatest or too few numbers lent everywhere
 unfoldable pub standingsOf : Register → List ℕ → List ℕ
 standingsOf g l =
-    cond (ltb maxSize (g .rows) || ltb (length l) (g .rows * words)) (replicate maxSize 0)
-    (filled (replicate maxSize 0) (g .rows) (λ i. standingOf g i l))
+    cond (ltb maxSize (g .counts .specs) || ltb (length l) (g .counts .specs * words)) (replicate maxSize 0)
+    (filled (replicate maxSize 0) (g .counts .specs) (λ i. standingAt g i l))
 
 -- row i with this mark
 abbrev pub marked : Register → (i mark : ℕ) → Register
 marked g i mark = record {
-  defs = g .defs;
-  refs = g .refs;
-  rows = g .rows;
+  counts = g .counts;
   states = g .states;
   codes = g .codes;
   places = g .places;
   marks = set (g .marks) i mark;
 }
 
-unfoldable pub ackAt : Register → ℕ → List ℕ → Changed
-ackAt g i l =
-    cond (eqb (ackCode (standingOf g i l) (getD (g .marks) i 0)) 0) (changed 0 (marked g i 1))
-    (changed (ackCode (standingOf g i l) (getD (g .marks) i 0)) g)
+unfoldable pub acknowledgeAt : Register → ℕ → List ℕ → Changed
+acknowledgeAt g i l =
+    cond (eqb (ackCode (standingAt g i l) (getD (g .marks) i 0)) 0) (changed 0 (marked g i 1))
+    (changed (ackCode (standingAt g i l) (getD (g .marks) i 0)) g)
 
 -- "Acknowledge: 16, 17, 18"
-unfoldable pub ackOf : Register → ℕ → List ℕ → Changed
-ackOf g row l = cond (eqb (gate (length l) (g .rows) row) 0) (ackAt g (row - 1) l) (changed (gate (length l) (g .rows) row) g)
+unfoldable pub acknowledgeOf : Register → ℕ → List ℕ → Changed
+acknowledgeOf g row l = cond (eqb (admitCode (length l) (g .counts .specs) row) 0) (acknowledgeAt g (row - 1) l) (changed (admitCode (length l) (g .counts .specs) row) g)
 
 unfoldable pub askAt : Register → ℕ → List ℕ → Asked
-askAt g i l = askedOf (standingOf g i l) (getD (g .states) i 0) (getD (g .codes) i 0) (getD (g .places) i 0) (getD (g .marks) i 0)
+askAt g i l = askedOf (standingAt g i l) (getD (g .states) i 0) (getD (g .codes) i 0) (getD (g .places) i 0) (getD (g .marks) i 0)
 
 -- "Asking a row gives standing, finding, place, mark (finding and place 0 unless BAD; a refused asking has all four 0)"
 unfoldable pub askOf : Register → ℕ → List ℕ → Asked
-askOf g row l = cond (eqb (gate (length l) (g .rows) row) 0) (askAt g (row - 1) l) (told (gate (length l) (g .rows) row) 0 0 0 0)
+askOf g row l = cond (eqb (admitCode (length l) (g .counts .specs) row) 0) (askAt g (row - 1) l) (told (admitCode (length l) (g .counts .specs) row) 0 0 0 0)

@@ -2,3 +2,4 @@ pub mod Model
 pub mod Calls
 pub mod History
 pub mod Demand
+pub mod Refusals

@@ -8,6 +8,8 @@ use mathlib.Core.Bool.{Bool, cond, _||_}
 use lib.Dec.{ltb, eqb}
 use Rattle.reach.specs.Reach.{Graph, thru}
 use Rattle.standing.specs.Standing.{standing}
+use Rattle.number.specs.Token.{noCounts}
+use Rattle.number.specs.declared.token.Counts.{Counts}
 use Rattle.grammar.specs.Judge.{Out}
 use Rattle.grammar.specs.Limits.{maxRows}
 use Rattle.answer.specs.Size.{maxSize, words}
@@ -16,9 +18,7 @@ use Rattle.filing.specs.Outcome.{judged, stateOf, codeOf, placeOf, namesRow}
 
 -- "It has, for each row, the last blob filed or none, and a mark or none": 0 is no mark
 pub record Model : Type 0 where
-  pub defs : ℕ
-  pub refs : ℕ
-  pub rows : ℕ
+  pub counts : Counts
   pub blob : ℕ → Option (List ℕ)
   pub mark : ℕ → ℕ
 
@@ -40,7 +40,7 @@ check f none = none
 check f (some blob) = some (f blob)
 
 abbrev pub outcome : Model → ℕ → Option Out
-outcome b i = check (judged (b .defs) (b .refs) (b .rows)) (b .blob i)
+outcome b i = check (judged (b .counts)) (b .blob i)
 
 abbrev pub stateM : Model → ℕ → ℕ
 stateM b i = stateOf (outcome b i)
@@ -50,48 +50,46 @@ abbrev pub refersM : Model → Graph
 refersM b i j = namesRow (outcome b i) (j + 1)
 
 abbrev pub standingM : Model → ℕ → ℕ
-standingM b i = standing (b .rows) (stateM b) (refersM b) i
+standingM b i = standing (b .counts .specs) (stateM b) (refersM b) i
 
 -- ---- the calls
 
 -- "16 for a row it hasn't", else 0
-unfoldable pub gateM : Model → (row : ℕ) → ℕ
-gateM b row = cond (eqb row 0 || ltb (b .rows) row) 16 0
+unfoldable pub rowCodeM : Model → (row : ℕ) → ℕ
+rowCodeM b row = cond (eqb row 0 || ltb (b .counts .specs) row) 16 0
 
 -- row j is row i or reaches it
 abbrev pub touched : Model → ℕ → ℕ → Bool
-touched b i j = eqb j i || thru (refersM b) (b .rows) j i
+touched b i j = eqb j i || thru (refersM b) (b .counts .specs) j i
 
 -- "the blob, good or bad, becomes the row's, and that row and every row that reaches it lose their marks"
 unfoldable pub filedM : Model → ℕ → Option (List ℕ) → Model
 filedM b i blob = record {
-  defs = b .defs;
-  refs = b .refs;
-  rows = b .rows;
+  counts = b .counts;
   blob = λ j. cond (eqb j i) blob (b .blob j);
   mark = λ j. cond (touched b i j) 0 (b .mark j);
 }
 
 -- "17 if the row stands EMPTY or CLEAN; 18 if it has a mark", else 0
-unfoldable pub ackM : Model → ℕ → ℕ
-ackM b i = ackCode (standingM b i) (b .mark i)
+unfoldable pub ackCodeM : Model → ℕ → ℕ
+ackCodeM b i = ackCode (standingM b i) (b .mark i)
 
 -- "and the row has a mark"
 unfoldable pub markedM : Model → (i mark : ℕ) → Model
-markedM b i mark = record { defs = b .defs; refs = b .refs; rows = b .rows; blob = b .blob; mark = λ j. cond (eqb j i) mark (b .mark j) }
+markedM b i mark = record { counts = b .counts; blob = b .blob; mark = λ j. cond (eqb j i) mark (b .mark j) }
 
 unfoldable pub answerM : Model → Call → Answer
-answerM b (filing row blob) = number (gateM b row)
-answerM b (acknowledging row) = number (cond (eqb (gateM b row) 0) (ackM b (row - 1)) (gateM b row))
+answerM b (filing row blob) = number (rowCodeM b row)
+answerM b (acknowledging row) = number (cond (eqb (rowCodeM b row) 0) (ackCodeM b (row - 1)) (rowCodeM b row))
 -- "Asking: 16 with four 0s, else 0 with standing, finding, place and mark"
 answerM b (asking row) =
-    cond (eqb (gateM b row) 0)
+    cond (eqb (rowCodeM b row) 0)
     (report 0 (standingM b (row - 1)) (codeOf (outcome b (row - 1))) (placeOf (outcome b (row - 1))) (b .mark (row - 1)))
-    (report (gateM b row) 0 0 0 0)
+    (report (rowCodeM b row) 0 0 0 0)
 
 unfoldable pub nextM : Model → Call → Model
-nextM b (filing row blob) = cond (eqb (gateM b row) 0) (filedM b (row - 1) (some blob)) b
-nextM b (acknowledging row) = cond (eqb (gateM b row) 0) (cond (eqb (ackM b (row - 1)) 0) (markedM b (row - 1) 1) b) b
+nextM b (filing row blob) = cond (eqb (rowCodeM b row) 0) (filedM b (row - 1) (some blob)) b
+nextM b (acknowledging row) = cond (eqb (rowCodeM b row) 0) (cond (eqb (ackCodeM b (row - 1)) 0) (markedM b (row - 1) 1) b) b
 nextM b (asking row) = b
 
 unfoldable pub answersM : Model → List Call → List Answer
@@ -104,14 +102,14 @@ endM b (c ∷ cs) = endM (nextM b c) cs
 
 -- ---- the opening
 
-abbrev pub emptyM : (defs refs rows : ℕ) → Model
-emptyM defs refs rows = record { defs = defs; refs = refs; rows = rows; blob = λ i. none; mark = λ i. 0 }
+abbrev pub emptyM : Counts → Model
+emptyM counts = record { counts = counts; blob = λ i. none; mark = λ i. 0 }
 
 -- "Where a count or the size is out of bounds, its opening answers 13 or 19 in the order above, and it has no rows; else 0, and it has
 -- rows 1 to the size, no blob and no mark"; document 02: "where they are too few for the size its opening gives 27, after 19, and it has no rows"
-unfoldable pub openingM : (defs refs rows lent : ℕ) → ℕ
-openingM defs refs rows lent =
-    cond (ltb maxRows defs || ltb maxRows refs) 13 (cond (eqb rows 0 || ltb maxSize rows) 19 (cond (ltb lent (rows * words)) 27 0))
+unfoldable pub openingM : (counts : Counts) (lent : ℕ) → ℕ
+openingM counts lent =
+    cond (ltb maxRows (counts .defs) || ltb maxRows (counts .refs)) 13 (cond (eqb (counts .specs) 0 || ltb maxSize (counts .specs)) 19 (cond (ltb lent (counts .specs * words)) 27 0))
 
-unfoldable pub openedM : (defs refs rows lent : ℕ) → Model
-openedM defs refs rows lent = cond (eqb (openingM defs refs rows lent) 0) (emptyM defs refs rows) (emptyM 0 0 0)
+unfoldable pub openedM : (counts : Counts) (lent : ℕ) → Model
+openedM counts lent = cond (eqb (openingM counts lent) 0) (emptyM counts) (emptyM noCounts)

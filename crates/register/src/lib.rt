@@ -2,35 +2,33 @@
 // same at each call from the opening on, WORDS to a row. Row r has the index r - 1.
 ghost use mathlib.Core.Path.{_≡_};
 ghost use Rattle.filing.specs.Outcome.{judged};
-ghost use Rattle.register.specs.Calls.{Inside, blank, left, changed, openCode, openOf, filedAt, fileOf, marksAfter, ackAt, ackOf, askAt, askOf, standingOf, standingsOf};
+ghost use Rattle.register.specs.Calls.{Inside, blankRegister, left, changed, tooMany, openCode, openOf, fileAt, fileOf, marksAfter, acknowledgeAt, acknowledgeOf, askAt, askOf, standingAt, standingsOf};
 pub use answer::Asked;
-pub use answer::SIZE;
+pub use answer::MAX_SIZE;
 pub use answer::WORDS;
 use answer::ack_code;
-use answer::admit;
+use answer::admit_code;
 use answer::asked_of;
 use filing::judge_row;
 use grammar::MAX_ROWS;
 use number::token::Counts;
+use number::token::no_counts;
 
 // Up to so many rows, a row is asked or filed with FEW_WORDS words to a row in the closed table, which is then small enough to be closed quickly.
 const FEW: usize = 64;
 
-const FEW_WORDS: usize = FEW / 32;
+const FEW_WORDS: usize = FEW / bits::WORD_BITS;
 
 pub struct Register {
-    // the row counts of TypeDef and TypeRef
-    pub defs: u32,
-    pub refs: u32,
-    // the number of rows, which is the row count of TypeSpec
-    pub rows: usize,
+    // the row counts of the tables; that of TypeSpec is the number of rows
+    pub counts: Counts,
     // of each row: 0 never filed, 1 refused, 2 accepted
-    pub states: [u8; SIZE],
+    pub states: [u8; MAX_SIZE],
     // of each refused row: the refusal's number and place
-    pub codes: [u8; SIZE],
-    pub places: [u16; SIZE],
+    pub codes: [u8; MAX_SIZE],
+    pub places: [u16; MAX_SIZE],
     // of each row: 0 for no mark
-    pub marks: [u8; SIZE],
+    pub marks: [u8; MAX_SIZE],
 }
 
 // The number that a call answers, and the register afterwards.
@@ -39,34 +37,40 @@ pub struct Changed {
     pub register: Register,
 }
 
-fn blank_register(defs: u32, refs: u32, rows: usize) -> Register
-    ensures { λ r. ⌜ r ≡ blank defs refs rows ⌝ }
+fn blank_register(counts: Counts) -> Register
+    ensures { λ r. ⌜ r ≡ blankRegister counts ⌝ }
 {
     Register {
-        defs,
-        refs,
-        rows,
-        states: [0u8; SIZE],
-        codes: [0u8; SIZE],
-        places: [0u16; SIZE],
-        marks: [0u8; SIZE],
+        counts,
+        states: [0u8; MAX_SIZE],
+        codes: [0u8; MAX_SIZE],
+        places: [0u16; MAX_SIZE],
+        marks: [0u8; MAX_SIZE],
     }
 }
 
-// 13, 19, 27 or 0: what opening answers, with so many words lent.
-fn opening_code(defs: u32, refs: u32, rows: usize, lent: usize) -> u32
-    ensures { λ r. ⌜ r ≡ openCode defs refs rows lent ⌝ }
+// Whether a table count is out of bounds. Of the rows the size decides.
+fn too_many(counts: Counts) -> bool
+    ensures { λ r. ⌜ r ≡ tooMany counts ⌝ }
 {
-    if MAX_ROWS < defs {
+    if MAX_ROWS < counts.defs {
+        return true;
+    }
+    MAX_ROWS < counts.refs
+}
+
+// 13, 19, 27 or 0: what opening answers, with so many words lent.
+fn open_code(counts: Counts, lent: usize) -> u32
+    ensures { λ r. ⌜ r ≡ openCode counts lent ⌝ }
+{
+    if too_many(counts) {
         return 13;
     }
-    if MAX_ROWS < refs {
-        return 13;
-    }
+    let rows = counts.specs as usize;
     if rows == 0 {
         return 19;
     }
-    if SIZE < rows {
+    if MAX_SIZE < rows {
         return 19;
     }
     if lent < rows * WORDS {
@@ -76,60 +80,60 @@ fn opening_code(defs: u32, refs: u32, rows: usize, lent: usize) -> u32
 }
 
 // Opens a register of so many rows, whose words it clears; a refused opening hands back one of 0 rows.
-pub fn open(defs: u32, refs: u32, rows: usize, sets: &mut [u32]) -> Changed
-    ensures { λ r. ⌜ left r (now (sets .exit)) ≡ openOf defs refs rows (now (sets .entry)) ⌝ }
+pub fn open(counts: Counts, sets: &mut [u32]) -> Changed
+    ensures { λ r. ⌜ left r (now (sets .exit)) ≡ openOf counts (now (sets .entry)) ⌝ }
 {
-    let no = opening_code(defs, refs, rows, sets.len());
+    let no = open_code(counts, sets.len());
     if no != 0 {
-        let none = blank_register(0, 0, 0);
+        let none = blank_register(no_counts());
         return Changed {
             code: no,
             register: none,
         };
     }
-    bits::clear(sets, 0, rows * WORDS);
-    let register = blank_register(defs, refs, rows);
+    bits::clear_words(sets, 0, counts.specs as usize * WORDS);
+    let register = blank_register(counts);
     Changed { code: 0, register }
 }
 
 fn standing_at(g: Register, i: usize, sets: &[u32]) -> u8
     requires { ⌜ Inside g i (now sets) ⌝ }
-    ensures { λ r. ⌜ r ≡ standingOf g i (now (sets .entry)) ⌝ }
+    ensures { λ r. ⌜ r ≡ standingAt g i (now (sets .entry)) ⌝ }
 {
-    let n = g.rows;
+    let n = g.counts.specs as usize;
     let states = g.states;
     if n <= FEW {
         let mut room = [0u32; FEW * FEW_WORDS];
         return standing::standing_among(&mut room, FEW_WORDS, sets, WORDS, &states, n, i);
     }
-    let mut room = [0u32; SIZE * WORDS];
+    let mut room = [0u32; MAX_SIZE * WORDS];
     standing::standing_among(&mut room, WORDS, sets, WORDS, &states, n, i)
 }
 
-// The standings of all rows, in their order, by one closure; 0 behind the last row, and for a size above 512 or too few words lent everywhere.
-pub fn standings(g: Register, sets: &[u32]) -> [u8; SIZE]
+// The standings of all rows, in their order, by one closure; 0 behind the last row, and for a size above MAX_SIZE or too few words lent everywhere.
+pub fn standings(g: Register, sets: &[u32]) -> [u8; MAX_SIZE]
     ensures { λ r. ⌜ r ≡ standingsOf g (now (sets .entry)) ⌝ }
 {
-    let mut all = [0u8; SIZE];
-    let n = g.rows;
-    if SIZE < n {
+    let mut all = [0u8; MAX_SIZE];
+    let n = g.counts.specs as usize;
+    if MAX_SIZE < n {
         return all;
     }
     if sets.len() < n * WORDS {
         return all;
     }
     let states = g.states;
-    let mut room = [0u32; SIZE * WORDS];
+    let mut room = [0u32; MAX_SIZE * WORDS];
     standing::standings_among(&mut all, &mut room, WORDS, sets, WORDS, &states, n);
     all
 }
 
 // The marks after row i is filed. Where there are none, none is taken, whatever the rows reach.
-fn marks_after(g: Register, i: usize, sets: &[u32]) -> [u8; SIZE]
+fn marks_after(g: Register, i: usize, sets: &[u32]) -> [u8; MAX_SIZE]
     requires { ⌜ Inside g i (now sets) ⌝ }
     ensures { λ r. ⌜ r ≡ marksAfter g i (now (sets .entry)) ⌝ }
 {
-    let n = g.rows;
+    let n = g.counts.specs as usize;
     let mut marks = g.marks;
     if standing::any_marked(&marks, n) {
         if n <= FEW {
@@ -137,7 +141,7 @@ fn marks_after(g: Register, i: usize, sets: &[u32]) -> [u8; SIZE]
             standing::unmark_among(&mut marks, &mut room, FEW_WORDS, sets, WORDS, n, i);
             return marks;
         }
-        let mut room = [0u32; SIZE * WORDS];
+        let mut room = [0u32; MAX_SIZE * WORDS];
         standing::unmark_among(&mut marks, &mut room, WORDS, sets, WORDS, n, i);
         return marks;
     }
@@ -146,15 +150,10 @@ fn marks_after(g: Register, i: usize, sets: &[u32]) -> [u8; SIZE]
 
 fn file_at(g: Register, i: usize, blob: &[u8], sets: &mut [u32]) -> Register
     requires { ⌜ Inside g i (now sets) ⌝ }
-    ensures { λ r. ⌜ left (changed 0 r) (now (sets .exit)) ≡ filedAt g i (judged (g .defs) (g .refs) (g .rows) (now (blob .entry))) (now (sets .entry)) ⌝ }
+    ensures { λ r. ⌜ left (changed 0 r) (now (sets .exit)) ≡ fileAt g i (judged (g .counts) (now (blob .entry))) (now (sets .entry)) ⌝ }
 {
     let marks = marks_after(g, i, sets);
-    let counts = Counts {
-        defs: g.defs,
-        refs: g.refs,
-        specs: g.rows as u32,
-    };
-    let finding = judge_row(sets, i, counts, blob);
+    let finding = judge_row(sets, i, g.counts, blob);
     let mut next = g;
     next.states[i] = finding.state;
     next.codes[i] = finding.code;
@@ -167,8 +166,8 @@ fn file_at(g: Register, i: usize, blob: &[u8], sets: &mut [u32]) -> Register
 pub fn file(g: Register, row: usize, blob: &[u8], sets: &mut [u32]) -> Changed
     ensures { λ r. ⌜ left r (now (sets .exit)) ≡ fileOf g row (now (blob .entry)) (now (sets .entry)) ⌝ }
 {
-    let n = g.rows;
-    let no = admit(sets.len(), n, row);
+    let n = g.counts.specs as usize;
+    let no = admit_code(sets.len(), n, row);
     if no != 0 {
         return Changed {
             code: no,
@@ -181,7 +180,7 @@ pub fn file(g: Register, row: usize, blob: &[u8], sets: &mut [u32]) -> Changed
 
 fn acknowledge_at(g: Register, i: usize, sets: &[u32]) -> Changed
     requires { ⌜ Inside g i (now sets) ⌝ }
-    ensures { λ r. ⌜ r ≡ ackAt g i (now (sets .entry)) ⌝ }
+    ensures { λ r. ⌜ r ≡ acknowledgeAt g i (now (sets .entry)) ⌝ }
 {
     let standing = standing_at(g, i, sets);
     let mark = g.marks[i];
@@ -199,10 +198,10 @@ fn acknowledge_at(g: Register, i: usize, sets: &[u32]) -> Changed
 
 // Marks a row that is BAD, LOOP or LEANS.
 pub fn acknowledge(g: Register, row: usize, sets: &[u32]) -> Changed
-    ensures { λ r. ⌜ r ≡ ackOf g row (now (sets .entry)) ⌝ }
+    ensures { λ r. ⌜ r ≡ acknowledgeOf g row (now (sets .entry)) ⌝ }
 {
-    let n = g.rows;
-    let no = admit(sets.len(), n, row);
+    let n = g.counts.specs as usize;
+    let no = admit_code(sets.len(), n, row);
     if no != 0 {
         return Changed {
             code: no,
@@ -224,8 +223,8 @@ fn ask_at(g: Register, i: usize, sets: &[u32]) -> Asked
 pub fn ask(g: Register, row: usize, sets: &[u32]) -> Asked
     ensures { λ r. ⌜ r ≡ askOf g row (now (sets .entry)) ⌝ }
 {
-    let n = g.rows;
-    let no = admit(sets.len(), n, row);
+    let n = g.counts.specs as usize;
+    let no = admit_code(sets.len(), n, row);
     if no != 0 {
         return Asked {
             code: no,

@@ -1,38 +1,30 @@
 -- How long a print can be.
 -- Assumes nothing.
-use Prim.Native.Nat.{ℕ, zero, suc, _+_, _*_, _/_, _%_, _^_, _<_, _≤_}
+use Prim.Native.Nat.{ℕ, zero, suc, _+_, _*_, _^_, _<_, _≤_}
 use mathlib.Core.List.{List, [], _∷_, _++_}
 use mathlib.Core.Bool.{Bool, true, false, cond}
 use native.Mathlib.Omega.{arith}
 use native.Mathlib.Nat.{le-refl}
 use lib.ListN.{length, length-append}
-use lib.Dec.{ltb, eqb}
+use lib.Dec.{eqb}
 use Rattle.number.specs.Checked.{checkedAt}
-use Rattle.number.specs.declared.checked.Checked.{Checked}
-use Rattle.number.specs.declared.checked.Checked.the-variants.{Good, Bad}
 use Rattle.answer.specs.Size.{maxSize}
 use Rattle.register.specs.declared.Register.{Register}
 use Rattle.answer.specs.declared.Asked.{Asked}
-use Rattle.layout.specs.Layout.{more, acksFrom}
-use Rattle.text.specs.Lines.{numeral, decimal, field, newline, header, standingName, rowLine, ackLine, refusalLine}
-use Rattle.text.specs.Printing.{greatest}
-use Rattle.presses.specs.Presses.{pressCode, pressMarks, pressLines, pressesMarks}
+use Rattle.layout.specs.Layout.{acksFrom}
+use Rattle.layout.proofs.Lists.{list-length}
+use Rattle.text.specs.Numeral.{maxDigits, decimal}
+use Rattle.text.proofs.Numerals.{numeral-length}
+use Rattle.sheet.specs.Lines.{field, newline, header, standingName, rowLine, ackLine, refusalLine}
+use Rattle.text.specs.Printing.{maxOffset}
+use Rattle.sheet.specs.Acks.{ackRowCode, ackRowMarks, acksBy, ackedMarks}
 use Rattle.sheet.specs.Rows.{askedBy, rowsBy, printedBy}
 
 longer : (x y : List ℕ) {a b : ℕ} → length x ≤ a → length y ≤ b → length (x ++ y) ≤ a + b
 longer x y h k = omega (arith, length-append x y, h, k)
 
-numeral-length : (k n : ℕ) → length (numeral k n) ≤ k
-unfolding numeral
-numeral-length zero n = omega arith
-numeral-length (suc k) n = picked (ltb n 10) (numeral-length k (n / 10))
-  where
-    picked : (b : Bool) → length (numeral k (n / 10)) ≤ k → length (cond b ((48 + n) ∷ []) (numeral k (n / 10) ++ ((48 + n % 10) ∷ []))) ≤ suc k
-    picked true h = omega arith
-    picked false h = omega (arith, length-append (numeral k (n / 10)) ((48 + n % 10) ∷ []), h)
-
 field-length : (n : ℕ) → length (field n) ≤ 21
-field-length n = omega (arith, numeral-length 20 n)
+field-length n = omega (arith, numeral-length maxDigits n)
 
 name-length : (n : ℕ) → length (standingName n) ≤ 6
 unfolding standingName
@@ -55,7 +47,7 @@ row-length row a =
     longer (placed ++ field (a .mark)) newline
     (longer placed (field (a .mark))
     (longer found (field (a .place))
-    (longer named (field (a .finding)) (longer (decimal row) (standingName (a .standing)) (numeral-length 20 row) (name-length (a .standing))) (field-length (a .finding)))
+    (longer named (field (a .finding)) (longer (decimal row) (standingName (a .standing)) (numeral-length maxDigits row) (name-length (a .standing))) (field-length (a .finding)))
     (field-length (a .place)))
     (field-length (a .mark)))
     (le-refl 1)
@@ -67,7 +59,7 @@ ack-length row code =
     longer (word ++ field row ++ field code) newline
     (longer (word ++ field row) (field code) (longer word (field row) (le-refl 3) (field-length row)) (field-length code)) (le-refl 1)
 
-pub refusal-length : (place : ℕ) → length (refusalLine place) ≤ greatest
+pub refusal-length : (place : ℕ) → length (refusalLine place) ≤ maxOffset
 unfolding refusalLine
 refusal-length place =
     let words : List ℕ = 0x73 ∷ 0x68 ∷ 0x65 ∷ 0x65 ∷ 0x74 ∷ 0x20 ∷ 0x72 ∷ 0x65 ∷ 0x66 ∷ 0x75 ∷ 0x73 ∷ 0x65 ∷ 0x64 ∷ 0x20 ∷ 0x61 ∷ 0x74 ∷ [] in
@@ -80,28 +72,19 @@ rows-length g standings marks zero i = omega arith
 rows-length g standings marks (suc k) i =
     let z = longer (rowLine (i + 1) (askedBy g standings marks i)) (rowsBy g standings marks k (i + 1)) (row-length (i + 1) (askedBy g standings marks i)) (rows-length g standings marks k (i + 1)) in omega (arith, z)
 
-presses-length : (standings : List ℕ) (rows : ℕ) (acks marks : List ℕ) → length (pressLines standings rows marks acks) ≤ 46 * length acks
-unfolding pressLines
-presses-length standings rows [] marks = omega arith
-presses-length standings rows (row ∷ acks) marks =
-    let z = longer (ackLine row (pressCode standings rows marks row)) (pressLines standings rows (pressMarks standings rows marks row) acks) (ack-length row (pressCode standings rows marks row)) (presses-length standings rows acks (pressMarks standings rows marks row)) in
+acks-by-length : (standings : List ℕ) (rows : ℕ) (acks marks : List ℕ) → length (acksBy standings rows marks acks) ≤ 46 * length acks
+unfolding acksBy
+acks-by-length standings rows [] marks = omega arith
+acks-by-length standings rows (row ∷ acks) marks =
+    let z = longer (ackLine row (ackRowCode standings rows marks row)) (acksBy standings rows (ackRowMarks standings rows marks row) acks) (ack-length row (ackRowCode standings rows marks row)) (acks-by-length standings rows acks (ackRowMarks standings rows marks row)) in
     omega (arith, z)
 
-acks-length : (k : ℕ) (s : List ℕ) (at : ℕ) → length (acksFrom k s at) ≤ k
-unfolding acksFrom
-acks-length zero s at = omega arith
-acks-length (suc k) s at = picked (checkedAt s at) (λ next. acks-length k s next)
-  where
-    picked : (c : Checked) → ((next : ℕ) → length (acksFrom k s next) ≤ k) → length (more c (λ v next. v ∷ acksFrom k s next)) ≤ suc k
-    picked (Good v next) h = let z = h next in omega arith
-    picked (Bad code) h = omega arith
-
-pub printed-length : (g : Register) → g .rows ≤ maxSize → (standings marks : List ℕ) (k : ℕ) → k < 2 ^ 32 → (s : List ℕ) (at : ℕ)
-    → length (printedBy g standings marks (acksFrom k s at)) ≤ greatest
+pub printed-length : (g : Register) → g .counts .specs ≤ maxSize → (standings marks : List ℕ) (k : ℕ) → k < 2 ^ 32 → (s : List ℕ) (at : ℕ)
+    → length (printedBy g standings marks (acksFrom k s at)) ≤ maxOffset
 unfolding printedBy
 printed-length g le standings marks k h s at =
     let acks = acksFrom k s at in
-    let rows = rowsBy g standings (pressesMarks standings (g .rows) marks acks) (g .rows) 0 in
-    let a = longer header rows (le-refl 29) (rows-length g standings (pressesMarks standings (g .rows) marks acks) (g .rows) 0) in
-    let z = longer (header ++ rows) (pressLines standings (g .rows) marks acks) a (presses-length standings (g .rows) acks marks) in
-    omega (arith, z, le, h, acks-length k s at)
+    let rows = rowsBy g standings (ackedMarks standings (g .counts .specs) marks acks) (g .counts .specs) 0 in
+    let a = longer header rows (le-refl 29) (rows-length g standings (ackedMarks standings (g .counts .specs) marks acks) (g .counts .specs) 0) in
+    let z = longer (header ++ rows) (acksBy standings (g .counts .specs) marks acks) a (acks-by-length standings (g .counts .specs) acks marks) in
+    omega (arith, z, le, h, list-length (checkedAt s) (λ v next. v) k at)

@@ -1,3 +1,5 @@
+pub mod Filed
+pub mod Acknowledging
 pub mod Rows
 pub mod Fits
 pub mod Lengths

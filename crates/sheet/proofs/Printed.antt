@@ -4,16 +4,17 @@ use Prim.Native.Nat.{ℕ, _<_, _≤_, _^_}
 use mathlib.Core.Path.{_≡_, sym, ap, _∙_, subst}
 use mathlib.Core.List.{List, _++_}
 use lib.ListN.{length}
-use Rattle.reader.specs.declared.Answer.{Answer}
+use Rattle.answer.specs.Answers.{answer}
+use Rattle.answer.specs.declared.Answer.{Answer}
 use Rattle.answer.specs.Size.{maxSize}
 use Rattle.register.specs.Calls.{Held, holding, standingsOf}
 use Rattle.register.specs.declared.Register.{Register}
 use Rattle.layout.specs.Layout.{layoutOf, acksFrom}
-use Rattle.text.specs.Lines.{header}
-use Rattle.deposit.specs.Deposit.{registerOf}
+use Rattle.sheet.specs.Lines.{header}
+use Rattle.sheet.specs.Filed.{registerOf}
 use Rattle.sheet.specs.Text.{ownSets, printed, acceptedText, textFor, textOf, Runs}
-use Rattle.text.specs.Printing.{greatest, further, laid}
-use Rattle.presses.specs.Presses.{pressLines, pressesMarks}
+use Rattle.text.specs.Printing.{maxOffset, further, laid}
+use Rattle.sheet.specs.Acks.{acksBy, ackedMarks}
 use Rattle.sheet.specs.Rows.{rowsBy, printedBy}
 use Rattle.layout.specs.declared.Layout.{Layout}
 use Rattle.layout.specs.declared.Parsed.{Parsed}
@@ -26,31 +27,31 @@ module _ (s : List ℕ) (l : Layout) {g : Register} {sets : List ℕ} (eg : hold
   provided : Provided (holding g sets)
   provided = subst (λ (y : Held). Provided y) (sym eg) (register-provided s l ownSets)
 
-  pub rows-fit : g .rows ≤ maxSize
+  pub rows-fit : g .counts .specs ≤ maxSize
   rows-fit = provided .size
 
-module _ (s : List ℕ) (l : Layout) {g : Register} {sets : List ℕ} (eg : holding g sets ≡ registerOf s l ownSets) {standings : List ℕ} (es : standings ≡ standingsOf g sets) (h : l .presses < 2 ^ 32)
-    {needed : ℕ} (en : needed ≡ further 0 (length (printedBy g standings (g .marks) (acksFrom (l .presses) s (l .acks))))) (out : List ℕ) where
-  by-register : printedBy g standings (g .marks) (acksFrom (l .presses) s (l .acks)) ≡ acceptedText s l
+module _ (s : List ℕ) (l : Layout) {g : Register} {sets : List ℕ} (eg : holding g sets ≡ registerOf s l ownSets) {standings : List ℕ} (es : standings ≡ standingsOf g sets) (h : l .acknowledged < 2 ^ 32)
+    {needed : ℕ} (en : needed ≡ further 0 (length (printedBy g standings (g .marks) (acksFrom (l .acknowledged) s (l .acks))))) (out : List ℕ) where
+  by-register : printedBy g standings (g .marks) (acksFrom (l .acknowledged) s (l .acks)) ≡ acceptedText s l
   by-register =
-      ap (λ (y : List ℕ). printedBy g y (g .marks) (acksFrom (l .presses) s (l .acks))) es
-      ∙ sym (printed-agree g sets (provided s l eg .size) (provided s l eg .enough) (acksFrom (l .presses) s (l .acks)))
-      ∙ ap (λ (y : Held). printed y (acksFrom (l .presses) s (l .acks))) eg
+      ap (λ (y : List ℕ). printedBy g y (g .marks) (acksFrom (l .acknowledged) s (l .acks))) es
+      ∙ sym (printed-agree g sets (provided s l eg .size) (provided s l eg .enough) (acksFrom (l .acknowledged) s (l .acks)))
+      ∙ ap (λ (y : Held). printed y (acksFrom (l .acknowledged) s (l .acks))) eg
 
-  bound : length (printedBy g standings (g .marks) (acksFrom (l .presses) s (l .acks))) ≤ greatest
-  bound = printed-length g (rows-fit s l eg) standings (g .marks) (l .presses) h s (l .acks)
+  bound : length (printedBy g standings (g .marks) (acksFrom (l .acknowledged) s (l .acks))) ≤ maxOffset
+  bound = printed-length g (rows-fit s l eg) standings (g .marks) (l .acknowledged) h s (l .acks)
 
-  pub print-short : length out < needed → Runs (acceptedText s l) (record { code = 15; place = needed }) out out
-  print-short k = subst (λ t. Runs t (record { code = 15; place = needed }) out out) by-register (runs-short _ bound en out k)
+  pub print-short : length out < needed → Runs (acceptedText s l) (answer 15 needed) out out
+  print-short k = subst (λ t. Runs t (answer 15 needed) out out) by-register (runs-short _ bound en out k)
 
-  pub print-fits : needed ≤ length out → {marks : List ℕ} → marks ≡ pressesMarks standings (g .rows) (g .marks) (acksFrom (l .presses) s (l .acks))
-      → {new : List ℕ} → new ≡ laid out 0 (header ++ rowsBy g standings marks (g .rows) 0 ++ pressLines standings (g .rows) (g .marks) (acksFrom (l .presses) s (l .acks)))
-      → Runs (acceptedText s l) (record { code = 0; place = needed }) out new
+  pub print-fits : needed ≤ length out → {marks : List ℕ} → marks ≡ ackedMarks standings (g .counts .specs) (g .marks) (acksFrom (l .acknowledged) s (l .acks))
+      → {new : List ℕ} → new ≡ laid out 0 (header ++ rowsBy g standings marks (g .counts .specs) 0 ++ acksBy standings (g .counts .specs) (g .marks) (acksFrom (l .acknowledged) s (l .acks)))
+      → Runs (acceptedText s l) (answer 0 needed) out new
   unfolding printedBy
   print-fits k em {new} e =
-      subst (λ t. Runs t (record { code = 0; place = needed }) out new) by-register
+      subst (λ t. Runs t (answer 0 needed) out new) by-register
       (runs-fits _ bound en out k
-      (e ∙ ap (λ m. laid out 0 (header ++ rowsBy g standings m (g .rows) 0 ++ pressLines standings (g .rows) (g .marks) (acksFrom (l .presses) s (l .acks)))) em))
+      (e ∙ ap (λ m. laid out 0 (header ++ rowsBy g standings m (g .counts .specs) 0 ++ acksBy standings (g .counts .specs) (g .marks) (acksFrom (l .acknowledged) s (l .acks)))) em))
 
 pub runs-layout : (s : List ℕ) {p q : Parsed} → p ≡ layoutOf s → p ≡ q → (r : Answer) (old new : List ℕ) → Runs (textFor s q) r old new → Runs (textOf s) r old new
 unfolding textOf

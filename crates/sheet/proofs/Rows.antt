@@ -1,4 +1,4 @@
--- Laws of `rowsBy`: the loop of `rows_to`.
+-- Laws of `rowsBy`: the loop of `rows_by`.
 -- Assumes nothing.
 use Prim.Native.Nat.{ℕ, suc, _+_, _-_, _<_}
 use mathlib.Core.Path.{_≡_, sym, subst}
@@ -6,7 +6,7 @@ use mathlib.Core.List.{List}
 use native.Mathlib.Omega.{arith}
 use Rattle.answer.specs.declared.Asked.{Asked}
 use Rattle.register.specs.declared.Register.{Register}
-use Rattle.text.specs.Lines.{rowLine}
+use Rattle.sheet.specs.Lines.{rowLine}
 use Rattle.text.specs.Printing.{Prints}
 use Rattle.text.proofs.Laying.{prints-none, prints-then}
 use Rattle.sheet.specs.Rows.{askedBy, rowsBy}

@@ -1,3 +1,6 @@
+pub mod Lines
+pub mod Filed
+pub mod Acks
 pub mod Text
 pub mod Rows
-pub mod Book
+pub mod ModelText

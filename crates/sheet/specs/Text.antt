@@ -6,16 +6,17 @@ use mathlib.Core.List.{List, [], _∷_, _++_}
 use mathlib.Core.Bool.{cond}
 use lib.ListN.{length, drop, replicate}
 use lib.Dec.{ltb}
-use Rattle.reader.specs.declared.Answer.{Answer}
+use Rattle.answer.specs.Answers.{answer}
+use Rattle.answer.specs.declared.Answer.{Answer}
 use Rattle.register.specs.declared.Register.{Register}
-use Rattle.register.specs.Calls.{Held, ackOf, askOf}
+use Rattle.register.specs.Calls.{Held, acknowledgeOf, askOf}
 use Rattle.answer.specs.Size.{maxSize, words}
 use Rattle.layout.specs.declared.Layout.{Layout}
 use Rattle.layout.specs.declared.Parsed.{Parsed}
 use Rattle.layout.specs.declared.Parsed.the-variants.{Refused, Accepted}
 use Rattle.layout.specs.Layout.{layoutOf, acksFrom}
-use Rattle.deposit.specs.Deposit.{registerOf}
-use Rattle.text.specs.Lines.{header, rowLine, ackLine, refusalLine}
+use Rattle.sheet.specs.Filed.{registerOf}
+use Rattle.sheet.specs.Lines.{header, rowLine, ackLine, refusalLine}
 
 -- the numbers that a sheet's run lends to its register: enough for any size
 abbrev pub ownSets : List ℕ
@@ -25,25 +26,25 @@ module _ (sets : List ℕ) where
   -- the rows acknowledged
   unfoldable pub ackedAll : Register → List ℕ → Register
   ackedAll g [] = g
-  ackedAll g (row ∷ rows) = ackedAll (ackOf g row sets .register) rows
+  ackedAll g (row ∷ rows) = ackedAll (acknowledgeOf g row sets .register) rows
 
   -- k rows from this one on, as they are asked
   unfoldable pub rowLines : Register → (k row : ℕ) → List ℕ
   rowLines g zero row = []
   rowLines g (suc k) row = rowLine row (askOf g row sets) ++ rowLines g k (row + 1)
 
-  -- each press with its answer
+  -- each acknowledgement with its answer
   unfoldable pub ackLines : Register → List ℕ → List ℕ
   ackLines g [] = []
-  ackLines g (row ∷ rows) = ackLine row (ackOf g row sets .code) ++ ackLines (ackOf g row sets .register) rows
+  ackLines g (row ∷ rows) = ackLine row (acknowledgeOf g row sets .code) ++ ackLines (acknowledgeOf g row sets .register) rows
 
--- the print of a register with all blobs filed, before the presses
+-- the print of a register with all blobs filed, before the acknowledgements
 unfoldable pub printed : Held → List ℕ → List ℕ
 printed h acks =
-    header ++ rowLines (h .sets) (ackedAll (h .sets) (h .register) acks) (h .register .rows) 1 ++ ackLines (h .sets) (h .register) acks
+    header ++ rowLines (h .sets) (ackedAll (h .sets) (h .register) acks) (h .register .counts .specs) 1 ++ ackLines (h .sets) (h .register) acks
 
 abbrev pub acceptedText : List ℕ → Layout → List ℕ
-acceptedText s l = printed (registerOf s l ownSets) (acksFrom (l .presses) s (l .acks))
+acceptedText s l = printed (registerOf s l ownSets) (acksFrom (l .acknowledged) s (l .acks))
 
 abbrev pub textFor : List ℕ → Parsed → List ℕ
 textFor s (Refused place) = refusalLine place
@@ -55,7 +56,7 @@ textOf s = textFor s (layoutOf s)
 
 -- 15 "output too short", with the bytes needed; else 0 with the bytes written
 unfoldable pub answered : List ℕ → (room : ℕ) → Answer
-answered text room = cond (ltb room (length text)) (record { code = 15; place = length text }) (record { code = 0; place = length text })
+answered text room = cond (ltb room (length text)) (answer 15 (length text)) (answer 0 (length text))
 
 -- the output lent, afterwards: "Any refusal keeps .. output .. unchanged; success changes only the .. bytes used"
 unfoldable pub outputOf : List ℕ → List ℕ → List ℕ

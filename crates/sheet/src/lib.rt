@@ -5,53 +5,58 @@ ghost use mathlib.Core.List.{_++_};
 ghost use lib.ListN.{length};
 ghost use Rattle.answer.specs.Size.{maxSize};
 ghost use Rattle.layout.specs.Layout.{acksFrom};
-ghost use Rattle.text.specs.Lines.{header, refusalLine};
-ghost use Rattle.sheet.specs.Text.{acceptedText, textOf, answered, outputOf, Runs};
 ghost use Rattle.text.specs.Printing.{further, laid, Prints};
-ghost use Rattle.presses.specs.Presses.{pressLines, pressesMarks};
-ghost use Rattle.sheet.specs.Rows.{askedBy, rowsBy, printedBy};
+ghost use Rattle.sheet.specs.Lines.{header, refusalLine};
+ghost use Rattle.sheet.specs.Text.{acceptedText, textOf, Runs};
+ghost use Rattle.sheet.specs.Acks.{acksBy, ackedMarks};
+ghost use Rattle.sheet.specs.Rows.{Known, askedBy, rowsBy, printedBy};
+use answer::Answer;
 use answer::Asked;
 use layout::Layout;
+pub use layout::MAX_SHEET;
 use layout::Parsed;
-use reader::Answer;
+use register::MAX_SIZE;
 use register::Register;
-use register::SIZE;
 use register::WORDS;
+
+mod acks;
+mod blobs;
+mod lines;
 
 // What asking row i gives, by these standings and marks.
 fn asked_by(g: Register, standings: &[u8], marks: &[u8], i: usize) -> Asked
-    requires { ⌜ (g .rows ≤ maxSize) × (i < g .rows) × (g .rows ≤ length (now standings)) × (g .rows ≤ length (now marks)) ⌝ }
+    requires { ⌜ (g .counts .specs ≤ maxSize) × (i < g .counts .specs) × (g .counts .specs ≤ length (now standings)) × (g .counts .specs ≤ length (now marks)) ⌝ }
     ensures { λ r. ⌜ r ≡ askedBy g (now (standings .entry)) (now (marks .entry)) i ⌝ }
 {
     answer::asked_of(standings[i], g.states[i], g.codes[i], g.places[i], marks[i])
 }
 
 // The lines of all rows.
-fn rows_to(out: &mut [u8], to: usize, g: Register, standings: &[u8], marks: &[u8]) -> usize
-    requires { ⌜ (g .rows ≤ maxSize) × (g .rows ≤ length (now standings)) × (g .rows ≤ length (now marks)) ⌝ }
-    ensures { λ r. ⌜ Prints (rowsBy g (now (standings .entry)) (now (marks .entry)) (g .rows) 0) to r (now (out .entry)) (now (out .exit)) ⌝ }
+fn rows_by(out: &mut [u8], to: usize, g: Register, standings: &[u8], marks: &[u8]) -> usize
+    requires { ⌜ Known g (now standings) (now marks) ⌝ }
+    ensures { λ r. ⌜ Prints (rowsBy g (now (standings .entry)) (now (marks .entry)) (g .counts .specs) 0) to r (now (out .entry)) (now (out .exit)) ⌝ }
 {
-    let n = g.rows;
+    let n = g.counts.specs as usize;
     let mut end = to;
     let mut i = 0;
     while i < n {
         let asked = asked_by(g, standings, marks, i);
         i += 1;
-        end = text::row_to(out, end, i, asked);
+        end = lines::row_line_to(out, end, i, asked);
     }
     end
 }
 
 // The header and the lines of all rows.
 fn head_to(out: &mut [u8], to: usize, g: Register, standings: &[u8], marks: &[u8]) -> usize
-    requires { ⌜ (g .rows ≤ maxSize) × (g .rows ≤ length (now standings)) × (g .rows ≤ length (now marks)) ⌝ }
-    ensures { λ r. ⌜ Prints (header ++ rowsBy g (now (standings .entry)) (now (marks .entry)) (g .rows) 0) to r (now (out .entry)) (now (out .exit)) ⌝ }
+    requires { ⌜ Known g (now standings) (now marks) ⌝ }
+    ensures { λ r. ⌜ Prints (header ++ rowsBy g (now (standings .entry)) (now (marks .entry)) (g .counts .specs) 0) to r (now (out .entry)) (now (out .exit)) ⌝ }
 {
     let here = text::text_to(out, to, b"row standing code place mark\n");
-    rows_to(out, here, g, standings, marks)
+    rows_by(out, here, g, standings, marks)
 }
 
-// The length of the print; the marks become those after the presses.
+// The length of the print; the marks become those after the acknowledgements.
 fn size_of(
     s: &[u8],
     g: Register,
@@ -60,17 +65,17 @@ fn size_of(
     standings: &[u8],
     marks: &mut [u8],
 ) -> usize
-    requires { ⌜ (g .rows ≤ maxSize) × (g .rows ≤ length (now standings)) × (g .rows ≤ length (now marks)) ⌝ }
+    requires { ⌜ Known g (now standings) (now marks) ⌝ }
     ensures { λ r. ⌜ r ≡ further 0 (length (printedBy g (now (standings .entry)) (now (marks .entry)) (acksFrom count (now (s .entry)) at))) ⌝ }
-    ensures { λ r. ⌜ now (marks .exit) ≡ pressesMarks (now (standings .entry)) (g .rows) (now (marks .entry)) (acksFrom count (now (s .entry)) at) ⌝ }
+    ensures { λ r. ⌜ now (marks .exit) ≡ ackedMarks (now (standings .entry)) (g .counts .specs) (now (marks .entry)) (acksFrom count (now (s .entry)) at) ⌝ }
 {
-    let n = g.rows;
+    let n = g.counts.specs as usize;
     let mut none = [0u8; 1];
-    let size = presses::acks_to(&mut none, 0, s, at, count, standings, marks, n);
+    let size = acks::acks_by(&mut none, 0, s, at, count, standings, marks, n);
     head_to(&mut none, size, g, standings, marks)
 }
 
-// Lays the print over the output; `marks` are those after the presses.
+// Lays the print over the output; `marks` are those after the acknowledgements.
 fn fill(
     out: &mut [u8],
     s: &[u8],
@@ -80,25 +85,25 @@ fn fill(
     standings: &[u8],
     marks: &[u8],
 )
-    requires { ⌜ (g .rows ≤ maxSize) × (g .rows ≤ length (now standings)) × (g .rows ≤ length (now marks)) ⌝ }
-    ensures { λ _. ⌜ now (out .exit) ≡ laid (now (out .entry)) 0 (header ++ rowsBy g (now (standings .entry)) (now (marks .entry)) (g .rows) 0 ++ pressLines (now (standings .entry)) (g .rows) (g .marks) (acksFrom count (now (s .entry)) at)) ⌝ }
+    requires { ⌜ Known g (now standings) (now marks) ⌝ }
+    ensures { λ _. ⌜ now (out .exit) ≡ laid (now (out .entry)) 0 (header ++ rowsBy g (now (standings .entry)) (now (marks .entry)) (g .counts .specs) 0 ++ acksBy (now (standings .entry)) (g .counts .specs) (g .marks) (acksFrom count (now (s .entry)) at)) ⌝ }
 {
-    let n = g.rows;
+    let n = g.counts.specs as usize;
     let here = head_to(out, 0, g, standings, marks);
     let mut again = g.marks;
-    presses::acks_to(out, here, s, at, count, standings, &mut again, n);
+    acks::acks_by(out, here, s, at, count, standings, &mut again, n);
 }
 
 // Prints an accepted sheet.
 fn print(out: &mut [u8], s: &[u8], layout: Layout) -> Answer
     ensures { λ r. ⌜ Runs (acceptedText (now (s .entry)) layout) r (now (out .entry)) (now (out .exit)) ⌝ }
 {
-    let mut sets = [0u32; SIZE * WORDS];
-    let g = deposit::register_of(&mut sets, s, layout);
+    let mut sets = [0u32; MAX_SIZE * WORDS];
+    let g = blobs::register_of(&mut sets, s, layout);
     let standings = register::standings(g, &sets);
     let mut marks = g.marks;
     let at = layout.acks;
-    let count = layout.presses;
+    let count = layout.acknowledged;
     let needed = size_of(s, g, at, count, &standings, &mut marks);
     if out.len() < needed {
         return Answer {
@@ -118,14 +123,14 @@ fn print_refusal(out: &mut [u8], place: usize) -> Answer
     ensures { λ r. ⌜ Runs (refusalLine place) r (now (out .entry)) (now (out .exit)) ⌝ }
 {
     let mut none = [0u8; 1];
-    let needed = text::refusal_to(&mut none, 0, place);
+    let needed = lines::refusal_line_to(&mut none, 0, place);
     if out.len() < needed {
         return Answer {
             code: 15,
             place: needed,
         };
     }
-    text::refusal_to(out, 0, place);
+    lines::refusal_line_to(out, 0, place);
     Answer {
         code: 0,
         place: needed,
@@ -134,7 +139,7 @@ fn print_refusal(out: &mut [u8], place: usize) -> Answer
 
 // Runs a deposit sheet on a register and prints what document 01 says, each line ended by 0A.
 pub fn run_sheet(sheet: &[u8], out: &mut [u8]) -> Answer
-    ensures { λ r. ⌜ (r ≡ answered (textOf (now (sheet .entry))) (length (now (out .entry)))) × (now (out .exit) ≡ outputOf (textOf (now (sheet .entry))) (now (out .entry))) ⌝ }
+    ensures { λ r. ⌜ Runs (textOf (now (sheet .entry))) r (now (out .entry)) (now (out .exit)) ⌝ }
 {
     match layout::layout_of(sheet) {
         Parsed::Refused(place) => print_refusal(out, place),

@@ -18,8 +18,8 @@ use Rattle.reach.specs.Closure.{ClosureOf}
 use Rattle.reach.proofs.Bools.{or-neither, or-left, or-right, or-cases}
 use Rattle.reach.proofs.Reaching.{thru-cong}
 use Rattle.standing.specs.Standing.{any, trouble, leaning, standing, cleared, filled, markedIn}
-use Rattle.standing.specs.Closed.{leansIn, losesIn, standingIn}
-use Rattle.bits.specs.Bits.{at}
+use Rattle.standing.specs.Closed.{leansOn, losesOf, standingOf}
+use Rattle.bits.specs.Bits.{bitAt}
 
 pub any-intro : (n : ℕ) (p : ℕ → Bool) (j : ℕ) → j < n → p j ≡ true → any n p ≡ true
 unfolding any
@@ -157,21 +157,21 @@ module _ (n : ℕ) (s t : ℕ → ℕ) (g h : Graph) (es : (i : ℕ) → i < n �
 
 -- ---- the ways out of `standing_of`
 module _ (w : ℕ) (m states : List ℕ) (n i : ℕ) where
-  pub stands-unaccepted : getD states i 0 < 2 → getD states i 0 ≡ standingIn w m states n i
-  unfolding standingIn
+  pub stands-unaccepted : getD states i 0 < 2 → getD states i 0 ≡ standingOf w m states n i
+  unfolding standingOf
   stands-unaccepted h = rw (lt-ltb _ _ h)
 
-  module _ (h : 2 ≤ getD states i 0) {x : Bool} (ex : x ≡ at w m i i) where
-    pub stands-loop : x ≡ true → 2 ≡ standingIn w m states n i
-    unfolding standingIn
+  module _ (h : 2 ≤ getD states i 0) {x : Bool} (ex : x ≡ bitAt w m i i) where
+    pub stands-loop : x ≡ true → 2 ≡ standingOf w m states n i
+    unfolding standingOf
     stands-loop l = rw (le-ltb _ _ h, sym ex ∙ l)
 
-    pub stands-leans : x ≡ false → {y : Bool} → y ≡ any n (leansIn w m states i) → y ≡ true → 3 ≡ standingIn w m states n i
-    unfolding standingIn
+    pub stands-leans : x ≡ false → {y : Bool} → y ≡ any n (leansOn w m states i) → y ≡ true → 3 ≡ standingOf w m states n i
+    unfolding standingOf
     stands-leans l ey a = rw (le-ltb _ _ h, sym ex ∙ l, sym ey ∙ a)
 
-    pub stands-clean : x ≡ false → {y : Bool} → y ≡ any n (leansIn w m states i) → y ≡ false → 4 ≡ standingIn w m states n i
-    unfolding standingIn
+    pub stands-clean : x ≡ false → {y : Bool} → y ≡ any n (leansOn w m states i) → y ≡ false → 4 ≡ standingOf w m states n i
+    unfolding standingOf
     stands-clean l ey a = rw (le-ltb _ _ h, sym ex ∙ l, sym ey ∙ a)
 
 -- ---- the same tests over the closed table
@@ -181,14 +181,14 @@ by-state (suc zero) x y e = refl
 by-state (suc (suc state)) x y e = rw (le-ltb (suc (suc state)) 2 (omega arith), ne-eqb (suc (suc state)) 0 (omega arith), ne-eqb (suc (suc state)) 1 (omega arith)) e
 
 module _ (w v n : ℕ) (refs m : List ℕ) (e : ClosureOf w v n refs m) where
-  pub loses-in : (i : ℕ) → i < n → (l : List ℕ) → cleared l n (losesIn w m i) ≡ cleared l n (λ j. eqb j i || thru (at v refs) n j i)
+  pub loses-in : (i : ℕ) → i < n → (l : List ℕ) → cleared l n (losesOf w m i) ≡ cleared l n (λ j. eqb j i || thru (bitAt v refs) n j i)
   loses-in i hi l = cleared-cong l n _ _ (λ j hj. rw (e j i hj hi))
 
   module _ (states : List ℕ) where
-    leaning-in : (i : ℕ) → i < n → any n (leansIn w m states i) ≡ leaning n (λ j. getD states j 0) (at v refs) i
+    leaning-in : (i : ℕ) → i < n → any n (leansOn w m states i) ≡ leaning n (λ j. getD states j 0) (bitAt v refs) i
     unfolding leaning trouble
     leaning-in i hi = any-cong n _ _ (λ j hj. rw (e i j hi hj, e j j hj hj))
 
-    pub standing-in : (i : ℕ) → i < n → standingIn w m states n i ≡ standing n (λ j. getD states j 0) (at v refs) i
-    unfolding standing standingIn
+    pub standing-in : (i : ℕ) → i < n → standingOf w m states n i ≡ standing n (λ j. getD states j 0) (bitAt v refs) i
+    unfolding standing standingOf
     standing-in i hi = by-state (getD states i 0) _ _ (rw (e i i hi hi, leaning-in i hi))

@@ -5,30 +5,30 @@ ghost use mathlib.Core.Bool.{_||_};
 ghost use Prim.Native.Nat.{_+_, _*_, _≤_, _<_};
 ghost use lib.ListN.{length, getD};
 ghost use lib.Dec.{eqb};
-ghost use Rattle.bits.specs.Bits.{at};
+ghost use Rattle.bits.specs.Bits.{wordBits, bitAt};
 ghost use Rattle.reach.specs.Reach.{thru};
 ghost use Rattle.standing.specs.Standing.{any, cleared, filled, markedIn, standing};
-ghost use Rattle.standing.specs.Closed.{leansIn, losesIn, standingIn};
-use bits::get;
+ghost use Rattle.standing.specs.Closed.{leansOn, losesOf, standingOf};
+use bits::bit_at;
 
 // Row i reaches row j, which is EMPTY, BAD or LOOP; m is a closed table.
 fn leans_on(m: &[u32], w: usize, states: &[u8], i: usize, j: usize) -> bool
-    requires { ⌜ (i * w + w ≤ length (now m)) × (j * w + w ≤ length (now m)) × (j < 32 * w) × (j < length (now states)) ⌝ }
-    ensures { λ r. ⌜ r ≡ leansIn w (now (m .entry)) (now (states .entry)) i j ⌝ }
+    requires { ⌜ (i * w + w ≤ length (now m)) × (j * w + w ≤ length (now m)) × (j < wordBits * w) × (j < length (now states)) ⌝ }
+    ensures { λ r. ⌜ r ≡ leansOn w (now (m .entry)) (now (states .entry)) i j ⌝ }
 {
-    if get(m, w, i, j) {
+    if bit_at(m, w, i, j) {
         if states[j] < 2 {
             return true;
         }
-        return get(m, w, j, j);
+        return bit_at(m, w, j, j);
     }
     false
 }
 
 // Row i reaches a row that is EMPTY, BAD or LOOP; m is a closed table.
 fn leans(m: &[u32], w: usize, states: &[u8], n: usize, i: usize) -> bool
-    requires { ⌜ (n * w ≤ length (now m)) × (n ≤ 32 * w) × (n ≤ length (now states)) × (i < n) ⌝ }
-    ensures { λ r. ⌜ r ≡ any n (leansIn w (now (m .entry)) (now (states .entry)) i) ⌝ }
+    requires { ⌜ (n * w ≤ length (now m)) × (n ≤ wordBits * w) × (n ≤ length (now states)) × (i < n) ⌝ }
+    ensures { λ r. ⌜ r ≡ any n (leansOn w (now (m .entry)) (now (states .entry)) i) ⌝ }
 {
     for j in 0..n {
         if leans_on(m, w, states, i, j) {
@@ -40,14 +40,14 @@ fn leans(m: &[u32], w: usize, states: &[u8], n: usize, i: usize) -> bool
 
 // The standing of row i among n; m is a closed table.
 fn standing_of(m: &[u32], w: usize, states: &[u8], n: usize, i: usize) -> u8
-    requires { ⌜ (n * w ≤ length (now m)) × (n ≤ 32 * w) × (n ≤ length (now states)) × (i < n) ⌝ }
-    ensures { λ r. ⌜ r ≡ standingIn w (now (m .entry)) (now (states .entry)) n i ⌝ }
+    requires { ⌜ (n * w ≤ length (now m)) × (n ≤ wordBits * w) × (n ≤ length (now states)) × (i < n) ⌝ }
+    ensures { λ r. ⌜ r ≡ standingOf w (now (m .entry)) (now (states .entry)) n i ⌝ }
 {
     let state = states[i];
     if state < 2 {
         return state;
     }
-    if get(m, w, i, i) {
+    if bit_at(m, w, i, i) {
         return 2;
     }
     if leans(m, w, states, n, i) {
@@ -58,8 +58,8 @@ fn standing_of(m: &[u32], w: usize, states: &[u8], n: usize, i: usize) -> u8
 
 // The standings of n rows, in their order; m is a closed table.
 fn standings_of(all: &mut [u8], m: &[u32], w: usize, states: &[u8], n: usize)
-    requires { ⌜ (n * w ≤ length (now m)) × (n ≤ 32 * w) × (n ≤ length (now states)) × (n ≤ length (now all)) ⌝ }
-    ensures { λ _. ⌜ now (all .exit) ≡ filled (now (all .entry)) n (standingIn w (now (m .entry)) (now (states .entry)) n) ⌝ }
+    requires { ⌜ (n * w ≤ length (now m)) × (n ≤ wordBits * w) × (n ≤ length (now states)) × (n ≤ length (now all)) ⌝ }
+    ensures { λ _. ⌜ now (all .exit) ≡ filled (now (all .entry)) n (standingOf w (now (m .entry)) (now (states .entry)) n) ⌝ }
 {
     for i in 0..n {
         all[i] = standing_of(m, w, states, n, i);
@@ -76,8 +76,8 @@ pub fn standing_among(
     n: usize,
     i: usize,
 ) -> u8
-    requires { ⌜ (n * w ≤ length (now room)) × (n * v ≤ length (now sets)) × (w ≤ v) × (n ≤ 32 * w) × (n ≤ length (now states)) × (i < n) ⌝ }
-    ensures { λ r. ⌜ r ≡ standing n (λ j. getD (now (states .entry)) j 0) (at v (now (sets .entry))) i ⌝ }
+    requires { ⌜ (n * w ≤ length (now room)) × (n * v ≤ length (now sets)) × (w ≤ v) × (n ≤ wordBits * w) × (n ≤ length (now states)) × (i < n) ⌝ }
+    ensures { λ r. ⌜ r ≡ standing n (λ j. getD (now (states .entry)) j 0) (bitAt v (now (sets .entry))) i ⌝ }
 {
     reach::closure(room, w, sets, v, n);
     standing_of(room, w, states, n, i)
@@ -93,8 +93,8 @@ pub fn standings_among(
     states: &[u8],
     n: usize,
 )
-    requires { ⌜ (n * w ≤ length (now room)) × (n * v ≤ length (now sets)) × (w ≤ v) × (n ≤ 32 * w) × (n ≤ length (now states)) × (n ≤ length (now all)) ⌝ }
-    ensures { λ _. ⌜ now (all .exit) ≡ filled (now (all .entry)) n (standing n (λ j. getD (now (states .entry)) j 0) (at v (now (sets .entry)))) ⌝ }
+    requires { ⌜ (n * w ≤ length (now room)) × (n * v ≤ length (now sets)) × (w ≤ v) × (n ≤ wordBits * w) × (n ≤ length (now states)) × (n ≤ length (now all)) ⌝ }
+    ensures { λ _. ⌜ now (all .exit) ≡ filled (now (all .entry)) n (standing n (λ j. getD (now (states .entry)) j 0) (bitAt v (now (sets .entry)))) ⌝ }
 {
     reach::closure(room, w, sets, v, n);
     standings_of(all, room, w, states, n);
@@ -115,19 +115,19 @@ pub fn any_marked(marks: &[u8], n: usize) -> bool
 
 // Row j loses its mark when row i is filed; m is a closed table.
 fn loses(m: &[u32], w: usize, i: usize, j: usize) -> bool
-    requires { ⌜ (j * w + w ≤ length (now m)) × (i < 32 * w) ⌝ }
-    ensures { λ r. ⌜ r ≡ losesIn w (now (m .entry)) i j ⌝ }
+    requires { ⌜ (j * w + w ≤ length (now m)) × (i < wordBits * w) ⌝ }
+    ensures { λ r. ⌜ r ≡ losesOf w (now (m .entry)) i j ⌝ }
 {
     if j == i {
         return true;
     }
-    get(m, w, j, i)
+    bit_at(m, w, j, i)
 }
 
 // Takes the marks of row i and of each row that reaches it; m is a closed table.
 fn unmark(marks: &mut [u8], m: &[u32], w: usize, n: usize, i: usize)
-    requires { ⌜ (n * w ≤ length (now m)) × (n ≤ 32 * w) × (n ≤ length (now marks)) × (i < n) ⌝ }
-    ensures { λ _. ⌜ now (marks .exit) ≡ cleared (now (marks .entry)) n (losesIn w (now (m .entry)) i) ⌝ }
+    requires { ⌜ (n * w ≤ length (now m)) × (n ≤ wordBits * w) × (n ≤ length (now marks)) × (i < n) ⌝ }
+    ensures { λ _. ⌜ now (marks .exit) ≡ cleared (now (marks .entry)) n (losesOf w (now (m .entry)) i) ⌝ }
 {
     for j in 0..n {
         if loses(m, w, i, j) {
@@ -146,8 +146,8 @@ pub fn unmark_among(
     n: usize,
     i: usize,
 )
-    requires { ⌜ (n * w ≤ length (now room)) × (n * v ≤ length (now sets)) × (w ≤ v) × (n ≤ 32 * w) × (n ≤ length (now marks)) × (i < n) ⌝ }
-    ensures { λ _. ⌜ now (marks .exit) ≡ cleared (now (marks .entry)) n (λ j. eqb j i || thru (at v (now (sets .entry))) n j i) ⌝ }
+    requires { ⌜ (n * w ≤ length (now room)) × (n * v ≤ length (now sets)) × (w ≤ v) × (n ≤ wordBits * w) × (n ≤ length (now marks)) × (i < n) ⌝ }
+    ensures { λ _. ⌜ now (marks .exit) ≡ cleared (now (marks .entry)) n (λ j. eqb j i || thru (bitAt v (now (sets .entry))) n j i) ⌝ }
 {
     reach::closure(room, w, sets, v, n);
     unmark(marks, room, w, n, i);

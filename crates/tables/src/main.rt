@@ -1,51 +1,16 @@
 // Tables that were changed, or lent with too little room, each given to the writer: its answer and bytes are printed and held to the file stdout.
-use libc::STDOUT_FILENO;
-use number::token::Counts;
-
-const KEPT: u8 = 0xA5;
-
-fn text(s: &[u8]) {
-    io::write_all(STDOUT_FILENO, s);
-}
-
-// A number behind a label.
-fn number(label: &[u8], n: u64) {
-    text(label);
-    io::print_decimal(STDOUT_FILENO, n);
-}
-
-fn wide(b: u8) -> u64 {
-    b as u64
-}
-
-// Each byte in two digits, a space before it.
-fn bytes(s: &[u8]) {
-    let mut i = 0;
-    while i < s.len() {
-        text(b" ");
-        io::print_hex(STDOUT_FILENO, wide(s[i]), 2);
-        i += 1;
-    }
-}
-
-// Document 01's row counts on the bench.
-fn bench() -> Counts {
-    Counts {
-        defs: 0,
-        refs: 18,
-        specs: 1,
-    }
-}
+use cases::KEPT;
+use cases::bench;
+use cases::print;
 
 fn shown(out: &[u8], code: u32, place: usize) {
-    number(b"", code as u64);
-    number(b" at ", place as u64);
+    print::outcome(b"", code, place);
     if code == 0 {
         if place <= out.len() {
-            bytes(&out[..place]);
+            print::bytes(&out[..place]);
         }
     }
-    text(b"\n");
+    print::text(b"\n");
 }
 
 // A table written where `out` is lent.

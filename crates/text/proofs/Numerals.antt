@@ -5,30 +5,30 @@ use mathlib.Core.Path.{_≡_, refl, sym, _∙_, subst}
 use mathlib.Core.Bool.{Bool, true, false, cond}
 use mathlib.Core.List.{List, [], _∷_, _++_}
 use native.Mathlib.Omega.{arith}
-use lib.ListN.{set}
+use lib.ListN.{length, length-append}
 use lib.Dec.{ltb}
 use borrow.Author.Tests.{lt-ltb, le-ltb, ltb-false}
-use Rattle.text.specs.Lines.{numeral}
-use Rattle.text.specs.Printing.{next, Prints}
-use Rattle.text.proofs.Laying.{prints-none, prints-byte, prints-then}
+use Rattle.text.specs.Numeral.{numeral}
+use Rattle.text.specs.Printing.{Prints}
+use Rattle.text.proofs.Laying.{prints-none, prints-then}
 
 pub numeral-none : (k n to : ℕ) (out : List ℕ) → k ≡ 0 → Prints (numeral k n) to to out out
 unfolding numeral
 numeral-none k n to out e = subst (λ j. Prints (numeral j n) to to out out) (sym e) (prints-none to out)
 
-pub numeral-digit : (k n to : ℕ) (old : List ℕ) → (k ≡ 0 → ⊥) → n < 10 → {r : ℕ} {new : List ℕ} → (r ≡ next to) × (new ≡ set old to (48 + n))
+pub numeral-digit : (k n to : ℕ) (old : List ℕ) → (k ≡ 0 → ⊥) → n < 10 → {r : ℕ} {new : List ℕ} → Prints ((48 + n) ∷ []) to r old new
     → Prints (numeral k n) to r old new
 unfolding numeral
 numeral-digit zero n to old ne h p = absurd (ne refl)
-numeral-digit (suc k) n to old ne h p = rw (lt-ltb n 10 h) (prints-byte (48 + n) to old p)
+numeral-digit (suc k) n to old ne h p = rw (lt-ltb n 10 h) p
 
 pub numeral-more : (k n to r q : ℕ) (old mid new : List ℕ) → (k ≡ 0 → ⊥) → 10 ≤ n → Prints (numeral (k - 1) (n / 10)) to r old mid
-    → (q ≡ next r) × (new ≡ set mid r (48 + n % 10)) → Prints (numeral k n) to q old new
+    → Prints ((48 + n % 10) ∷ []) r q mid new → Prints (numeral k n) to q old new
 unfolding numeral
 numeral-more zero n to r q old mid new ne h p b = absurd (ne refl)
 numeral-more (suc k) n to r q old mid new ne h p b =
     let z : suc k - 1 ≡ k = omega arith in
-    rw (le-ltb n 10 h) (prints-then (numeral k (n / 10)) ((48 + n % 10) ∷ []) to r q old mid new (subst (λ j. Prints (numeral j (n / 10)) to r old mid) z p) (prints-byte (48 + n % 10) r mid b))
+    rw (le-ltb n 10 h) (prints-then (numeral k (n / 10)) ((48 + n % 10) ∷ []) to r q old mid new (subst (λ j. Prints (numeral j (n / 10)) to r old mid) z p) b)
 
 -- ---- a numeral says its number
 
@@ -53,3 +53,13 @@ numeral-says (suc k) n h = go (ltb n 10) refl (numeral-says k (n / 10))
         let p : 10 ^ suc k ≡ 10 ^ k * 10 = pow·suc 10 k in
         let i = f (omega (arith, h, p)) in
         says-append (numeral k (n / 10)) ((48 + n % 10) ∷ []) 0 ∙ omega (arith, i)
+
+-- a numeral has at most k digits
+pub numeral-length : (k n : ℕ) → length (numeral k n) ≤ k
+unfolding numeral
+numeral-length zero n = omega arith
+numeral-length (suc k) n = picked (ltb n 10) (numeral-length k (n / 10))
+  where
+    picked : (b : Bool) → length (numeral k (n / 10)) ≤ k → length (cond b ((48 + n) ∷ []) (numeral k (n / 10) ++ ((48 + n % 10) ∷ []))) ≤ suc k
+    picked true h = omega arith
+    picked false h = omega (arith, length-append (numeral k (n / 10)) ((48 + n % 10) ∷ []), h)

@@ -1,10 +1,10 @@
 // Registers whose rows name each other: in a cycle, in a line, at random.
 ghost use Prim.Native.Nat.{_+_, _≤_, _<_};
 ghost use Rattle.answer.specs.Size.{maxSize};
-use register::SIZE;
+use register::MAX_SIZE;
 use register::WORDS;
 
-pub type Sets = [u32; SIZE * WORDS];
+pub type Sets = [u32; MAX_SIZE * WORDS];
 
 type Blob = [u8; 16];
 

@@ -5,8 +5,9 @@ use crate::graphs::Graph;
 use crate::graphs::Sets;
 use crate::graphs::type_of;
 use number::checked::Checked;
+use number::token::no_counts;
+use register::MAX_SIZE;
 use register::Register;
-use register::SIZE;
 use register::WORDS;
 
 const NUMBERS: usize = 10000;
@@ -23,7 +24,7 @@ fn sum_of(s: &[u8]) -> u64 {
                 sum = std::num::wrapping_add_u64(sum, value as u64);
                 at = next;
             }
-            Checked::Bad { code: _ } => return sum,
+            Checked::Bad { refusal: _ } => return sum,
         }
     }
     sum
@@ -70,11 +71,11 @@ fn file(g: Register, graph: Graph, rows: usize, i: usize, seed: u64, sets: &mut 
 
 // Files each row, one after the other, its type; before each filing row 32 gets this mark.
 fn file_all(g: Register, graph: Graph, mark: u8, sets: &mut Sets) -> Round {
-    let rows = g.rows;
+    let rows = g.counts.specs as usize;
     let mut register = g;
     let mut seed: u64 = 1;
     let mut kept: u64 = 0;
-    for i in 0..SIZE {
+    for i in 0..MAX_SIZE {
         if i < rows {
             register.marks[MARKED] = mark;
             let filed = file(register, graph, rows, i, seed, sets);
@@ -89,8 +90,10 @@ fn file_all(g: Register, graph: Graph, mark: u8, sets: &mut Sets) -> Round {
 }
 
 // A register of so many rows, all filed.
-fn filled(graph: Graph, rows: usize, sets: &mut Sets) -> Register {
-    let opened = register::open(0, 0, rows, sets);
+fn filled(graph: Graph, rows: u32, sets: &mut Sets) -> Register {
+    let mut counts = no_counts();
+    counts.specs = rows;
+    let opened = register::open(counts, sets);
     file_all(opened.register, graph, 0, sets).register
 }
 
@@ -100,9 +103,10 @@ fn ask(g: Register, row: usize, sets: &Sets) -> u32 {
 
 // Asks each row, one after the other.
 fn ask_all(g: Register, sets: &Sets) -> u64 {
+    let rows = g.counts.specs as usize;
     let mut sum: u64 = 0;
-    for i in 0..SIZE {
-        if i < g.rows {
+    for i in 0..MAX_SIZE {
+        if i < rows {
             sum = sum % 0x100000000 + ask(g, i + 1, sets) as u64;
         }
     }
@@ -110,8 +114,8 @@ fn ask_all(g: Register, sets: &Sets) -> u64 {
 }
 
 // Asks each row so many times.
-pub fn asks(graph: Graph, rows: usize, rounds: u32) -> u64 {
-    let mut sets = [0u32; SIZE * WORDS];
+pub fn asks(graph: Graph, rows: u32, rounds: u32) -> u64 {
+    let mut sets = [0u32; MAX_SIZE * WORDS];
     let g = filled(graph, rows, &mut sets);
     let mut sum: u64 = 0;
     for _ in 0..rounds {
@@ -121,8 +125,8 @@ pub fn asks(graph: Graph, rows: usize, rounds: u32) -> u64 {
 }
 
 // Files each row so many times again, each time with row 32 marked, so that the rows that reach the filed one are looked for.
-pub fn files(graph: Graph, rows: usize, rounds: u32) -> u64 {
-    let mut sets = [0u32; SIZE * WORDS];
+pub fn files(graph: Graph, rows: u32, rounds: u32) -> u64 {
+    let mut sets = [0u32; MAX_SIZE * WORDS];
     let mut g = filled(graph, rows, &mut sets);
     let mut kept: u64 = 0;
     for _ in 0..rounds {

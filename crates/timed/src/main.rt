@@ -3,9 +3,9 @@
 mod graphs;
 mod jobs;
 
+use cases::print;
 use graphs::Graph;
-use libc::STDOUT_FILENO;
-use register::SIZE;
+use register::MAX_SIZE;
 
 // How the rows name each other, by a letter.
 fn graph_of(letter: u8) -> Graph {
@@ -17,7 +17,7 @@ fn graph_of(letter: u8) -> Graph {
 }
 
 // The sum of the job with this letter, over rows that name each other so.
-fn run(job: u8, graph: Graph, rows: usize, rounds: u32) -> u64 {
+fn run(job: u8, graph: Graph, rows: u32, rounds: u32) -> u64 {
     match job {
         b'n' => jobs::numbers(),
         b'a' => jobs::asks(graph, rows, rounds),
@@ -28,8 +28,7 @@ fn run(job: u8, graph: Graph, rows: usize, rounds: u32) -> u64 {
 
 fn main() {
     if os::arg_count() < 2 {
-        io::write_all(
-            STDOUT_FILENO,
+        print::text(
             b"usage: timed numbers | asks GRAPH [small] | files GRAPH [small]; GRAPH: cycle, line, random\n",
         );
         return;
@@ -44,8 +43,8 @@ fn main() {
     let sum = if size[0] == b's' {
         run(job[0], graph, 64, 1000)
     } else {
-        run(job[0], graph, SIZE, 1)
+        run(job[0], graph, MAX_SIZE as u32, 1)
     };
-    io::print_decimal(STDOUT_FILENO, sum);
-    io::write_all(STDOUT_FILENO, b"\n");
+    print::number(b"", sum);
+    print::text(b"\n");
 }

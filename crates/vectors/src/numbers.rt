@@ -1,14 +1,13 @@
 // ECMA-335's examples of compressed numbers, read and written, and document 01's refusals of numbers.
-use crate::print;
+use cases::print;
 use number::Number;
 
 // What stands at the front of `s`: a value and the offset after it, or why there is none.
 fn show_read(s: &[u8]) {
     match number::number_at(s, 0) {
         Number::Value { value, next } => {
-            print::hex(value as u64);
-            print::text(b" next ");
-            print::decimal(next as u64);
+            print::hex(b"", value);
+            print::number(b" next ", next as u64);
         }
         Number::Cut => {
             print::text(b"cut");
@@ -26,10 +25,9 @@ fn show_read(s: &[u8]) {
 // The encoding of `v`, in five bytes that were FF before.
 fn show_written(v: u32) {
     let mut out = [0xFFu8; 5];
-    let n = encoding::put_number(&mut out, 0, v);
-    print::hex(v as u64);
-    print::text(b" has ");
-    print::decimal(n as u64);
+    let n = number::encoding::put_number(&mut out, 0, v);
+    print::hex(b"", v);
+    print::number(b" has ", n as u64);
     print::bytes(&out);
     print::text(b"\n");
 }

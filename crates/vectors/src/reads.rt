@@ -1,5 +1,5 @@
-// Document 01's bench and a dozen refusals of each number from 1 to 13, each read, and its answer and table printed. The rows are as rows.rt says.
-use crate::rows::show_rows;
+// Document 01's bench and a dozen refusals of each number from 1 to 13, each read, and its answer and table printed. The rows are as cases/src/rows.rt says.
+use crate::answers::show_rows;
 
 // Document 01's bench.
 fn bench() {

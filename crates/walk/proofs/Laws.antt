@@ -4,27 +4,32 @@ use Prim.Native.Nat.{ℕ, zero, suc, _+_, _-_, _*_, _≤_, _<_}
 use native.Mathlib.Nat.{suc-mul}
 use native.Mathlib.Omega.{arith}
 use mathlib.Core.Path.{_≡_, refl, sym, ap, subst, _∙_}
+use mathlib.Core.Bool.{Bool, true, false, cond}
 use mathlib.Core.List.{List, [], _∷_, _++_, append-assoc, append-nil}
 use lib.ListN.{length}
+use lib.Dec.{eqb}
 use Rattle.number.specs.Checked.{countAt}
 use Rattle.number.specs.declared.checked.Checked.{Checked}
 use Rattle.number.specs.declared.checked.Checked.the-variants.{Good, Bad}
 use Rattle.number.specs.declared.token.Counts.{Counts}
 use Rattle.element.specs.declared.Place.the-variants as Place
 use Rattle.grammar.specs.Limits.{maxNodes, maxRank}
-use Rattle.grammar.specs.Table.{SIZE, LOW}
-use Rattle.grammar.specs.Judge.{Out, fault, done, bind, numbered, many, bound, Reader, array, node}
+use Rattle.grammar.specs.Table.{SIZE}
+use Rattle.grammar.specs.Judge.{Out, fault, done, bind, numbered, many, size, low, Reader, array, node}
 use Rattle.grammar.specs.declared.Node.{Node}
 use Rattle.grammar.proofs.Sound.{Holds, holds}
-use Rattle.grammar.proofs.Bounds.{Ends, ends-many, ends-bound, ends-array, ends-node}
-use Rattle.walk.specs.Walk.{putOf, putAfter, closes, stamp, leaves, walkOf, Walked, series, recordOf, smallOf, sealsOf, Sealed, ShapeOut, cut, shaped, shapeNumber, shapePrepend, shapeThen, lowsOf, shapeOf, shapeResult, shapeLeaves, Shaped, arrayOf}
-use Rattle.node.specs.declared.Head.{Head}
+use Rattle.grammar.proofs.Bounds.{Ends, ends-size, ends-low, ends-array, ends-node}
+use Rattle.opening.specs.Means.{recordOf, sealed, andThen, series}
+use Rattle.opening.specs.declared.Head.{Head}
+use Rattle.opening.proofs.Opens.{series-more, series-same}
+use Rattle.walk.specs.Table.{putOf, putAfter, closeOf, stamp, smallOf, sealsOf, Sealed}
+use Rattle.walk.specs.Walk.{leaves, walkOf, Walked}
+use Rattle.walk.specs.Shape.{boundAt, ShapeOut, cut, shaped, shapeNumber, shapePrepend, shapeThen, lowsAt, shapeAt, shapeResult, shapeLeaves, Shaped}
 use Rattle.walk.specs.declared.Walk.{Walk}
 use Rattle.walk.specs.declared.Walk.the-variants.{Next, Stop}
-use Rattle.walk.specs.declared.Shape.{Shape}
-use Rattle.walk.specs.declared.Shape.the-variants as Shape
+use Rattle.walk.specs.declared.shape.Shape.{Shape}
+use Rattle.walk.specs.declared.shape.Shape.the-variants as Shape
 use Rattle.walk.proofs.Stamp.{length-put, length-stamp, stamp-put, stamp-append, put-after}
-use Rattle.walk.proofs.Opens.{andThen, sealed, series-more, series-same}
 
 -- a walk does not both stop and go on
 pub clash : {X : Type 0} {c p e m : ℕ} → Stop c p ≡ Next e m → X
@@ -32,7 +37,7 @@ clash q = let z : _≡_ {A = ℕ} 0 1 = cc in absurd (omega arith)
 
 -- ---- seal
 
-pub seal-small : (w : Walk) (e m : ℕ) → smallOf w → w ≡ Next e m → m ≤ 4096
+pub seal-small : (w : Walk) (e m : ℕ) → smallOf w → w ≡ Next e m → m ≤ maxNodes
 seal-small w e m h g = subst smallOf g h
 
 pub seal-stored : (w : Walk) (n : ℕ) (h : Head) (at e m at′ m′ : ℕ) (o o′ : List ℕ) → w ≡ Next e m → at′ ≡ at → m′ ≡ m → o′ ≡ putOf o n (recordOf h at′ m′) → Sealed w n h at (Next e m) o o′
@@ -158,24 +163,24 @@ module _ (o : Out) (n : ℕ) (h : Head) (at next : ℕ) (v w : Walk) (o₀ o₁ 
 -- ends it, with the k records corrected, and then the rest of the loop, is an end G of the whole
 pub record Pending (G : Walk → List ℕ → Type 0) (item : Out) (rest : ℕ → ℕ → Out) (n k : ℕ) (out : List ℕ) : Type 0 where
   pub stops : (w : Walk) (o : List ℕ) → Walked item n w out o → (c p : ℕ) → w ≡ Stop c p → G (Stop c p) o
-  pub goes : (w : Walk) (o : List ℕ) → Walked item n w out o → (e m : ℕ) → w ≡ Next e m → (r : Walk) (fin : List ℕ) → Walked (rest e m) m r (closes o n k m) fin → G r fin
+  pub goes : (w : Walk) (o : List ℕ) → Walked item n w out o → (e m : ℕ) → w ≡ Next e m → (r : Walk) (fin : List ℕ) → Walked (rest e m) m r (closeOf o n k m) fin → G r fin
 
 module _ (G : Walk → List ℕ → Type 0) (rest : ℕ → ℕ → Out) (n k : ℕ) where
   -- one node more is put
   pub pending-link : (o : Out) (h : Head) (at next j : ℕ) (v : Walk) (o₀ o₁ : List ℕ) → j ≡ suc k → Sealed (Next next (n + 1)) n h at v o₀ o₁ → Pending G (sealed o h at) rest n k o₀ → Pending G o rest (n + 1) j o₁
-  unfolding closes
+  unfolding closeOf
   pending-link o h at next j v o₀ o₁ a s x =
       let b : n + 1 - 1 ≡ n = omega arith in
       record {
         stops = λ w o₂ y c p g. x .stops (Stop c p) o₂ (link-stop o n h at next v w o₀ o₁ o₂ s y c p g) c p refl;
         goes = λ w o₂ y e m g r fin z.
             x .goes (Next e m) (putAfter o₂ n m) (link-next o n h at next v w o₀ o₁ o₂ s y e m g) e m refl r fin
-            (subst (λ (i : ℕ). Walked (rest e m) m r (closes (putAfter o₂ i m) i k m) fin) b (subst (λ (i : ℕ). Walked (rest e m) m r (closes o₂ (n + 1) i m) fin) a z));
+            (subst (λ (i : ℕ). Walked (rest e m) m r (closeOf (putAfter o₂ i m) i k m) fin) b (subst (λ (i : ℕ). Walked (rest e m) m r (closeOf o₂ (n + 1) i m) fin) a z));
       }
 
   -- its end
   pub pending-end : (item : Out) (out : List ℕ) → Pending G item rest n k out → (w : Walk) (o : List ℕ) → Walked item n w out o → (e m : ℕ) → w ≡ Next e m
-      → (o₁ : List ℕ) → o₁ ≡ closes o n k m → (r : Walk) (fin : List ℕ) → Walked (rest e m) m r o₁ fin → G r fin
+      → (o₁ : List ℕ) → o₁ ≡ closeOf o n k m → (r : Walk) (fin : List ℕ) → Walked (rest e m) m r o₁ fin → G r fin
   pending-end item out x w o y e m g o₁ z r fin u = x .goes w o y e m g r fin (subst (λ (l : List ℕ). Walked (rest e m) m r l fin) z u)
 
   pub pending-is : (o q : Out) (out : List ℕ) → o ≡ q → Pending G o rest n k out → Pending G q rest n k out
@@ -203,12 +208,12 @@ series-end f g (suc i) e m o h = absurd (omega arith)
 -- an item of which nothing is read yet
 pub pending-item : (G : Walk → List ℕ → Type 0) (f g : ℕ → ℕ → Out) (left e m k : ℕ) (out : List ℕ) → 0 < left → k ≡ 0 → Holds (Ends m) (f e m)
     → ((r : Walk) (fin : List ℕ) → Walked (series f g left e m) m r out fin → G r fin) → Pending G (f e m) (series g g (left - 1)) m k out
-unfolding closes
+unfolding closeOf
 pending-item G f g left e m k out h z ends x =
     record {
       stops = λ w o y c p u. x (Stop c p) o (series-stop f g left e m w out o h y c p u);
       goes = λ w o y e₂ m₂ u r fin v.
-          x r fin (series-next f g left e m w out o h y ends e₂ m₂ u r fin (subst (λ (i : ℕ). Walked (series g g (left - 1) e₂ m₂) m₂ r (closes o m i m₂) fin) z v));
+          x r fin (series-next f g left e m w out o h y ends e₂ m₂ u r fin (subst (λ (i : ℕ). Walked (series g g (left - 1) e₂ m₂) m₂ r (closeOf o m i m₂) fin) z v));
     }
 
 -- what falls from one turn of such a loop to the next: the levels left or, with all of them given back, the items left
@@ -236,10 +241,15 @@ module _ (f : ℕ → ℕ → Out) (left e m : ℕ) (w : Walk) (o o₁ : List �
 pub loop-end : (f : ℕ → ℕ → Out) (left e m : ℕ) (o : List ℕ) → left ≤ 0 → Walked (many f left e m) m (Next e m) o o
 loop-end f left e m o h = walked-is _ _ m _ o o (sym (series-same f left e m)) (series-end f f left e m o h)
 
-pub ends-bounds : (s : List ℕ) (kind d k at n : ℕ) → n ≤ maxNodes → Holds (Ends n) (many (bound kind d s) k at n)
-ends-bounds s kind d k at n j = ends-many (bound kind d s) (ends-bound s kind d) k at n j
-
 -- ---- a shape
+
+pub ends-bound-at : (kind d : ℕ) (s : List ℕ) (at n : ℕ) → Holds (Ends n) (boundAt kind d s at n)
+unfolding boundAt
+ends-bound-at kind d s at n = go (eqb kind SIZE)
+  where
+    go : (t : Bool) → Holds (Ends n) (cond t (size d s at n) (low d s at n))
+    go true = ends-size s d at n
+    go false = ends-low s d at n
 
 pub shaped-stop : (n c p : ℕ) (o : List ℕ) → Shaped (cut c p) n (Shape.Stop c p) o o
 unfolding shapeResult shapeLeaves
@@ -251,11 +261,9 @@ shaped-here h e m n o = record { result = refl; left = refl }
 
 -- y is what the call gave, x what its contract says
 pub shape-bad : (y x : Checked) (n c at : ℕ) (k : ℕ → ℕ → ShapeOut) (o : List ℕ) → y ≡ x → y ≡ Bad c → Shaped (shapeNumber x at k) n (Shape.Stop c at) o o
-unfolding shapeNumber
 shape-bad y x n c at k o e g = rw (sym e ∙ g) (shaped-stop n c at o)
 
 pub shape-good : (y x : Checked) (n v next at : ℕ) (k : ℕ → ℕ → ShapeOut) (r : Shape) (o o₁ : List ℕ) → y ≡ x → y ≡ Good v next → Shaped (k v next) n r o o₁ → Shaped (shapeNumber x at k) n r o o₁
-unfolding shapeNumber
 shape-good y x n v next at k r o o₁ e g h = rw (sym e ∙ g) h
 
 pub shape-halt : (o : Out) (k : ℕ → ℕ → ShapeOut) (n c p : ℕ) (w : Walk) (o₀ o₁ : List ℕ) → Walked o n w o₀ o₁ → w ≡ Stop c p → Shaped (shapeThen o k) n (Shape.Stop c p) o₀ o₁
@@ -292,9 +300,9 @@ closed (shaped h e m rs) at = done e m (recordOf h at m ∷ rs)
 module _ (at : ℕ) (acc : List Node) where
   number-closed : (o : Checked) (from : ℕ) (k : ℕ → ℕ → Out) (h : ℕ → ℕ → ShapeOut) → ((v next : ℕ) → k v next ≡ closed (shapePrepend acc (h v next)) at)
       → numbered o from k ≡ closed (shapePrepend acc (shapeNumber o from h)) at
-  unfolding shapeNumber shapePrepend closed
+  unfolding shapePrepend closed
   number-closed (Good v next) from k h f = f v next
-  number-closed (Bad code) from k h f = refl
+  number-closed (Bad refusal) from k h f = refl
 
   prepend-twice : (rs : List Node) (t : ShapeOut) → shapePrepend (acc ++ rs) t ≡ shapePrepend acc (shapePrepend rs t)
   unfolding shapePrepend
@@ -314,15 +322,15 @@ bind-first at (fault c p) k h f = refl
 bind-first at (done e m rs) k h f = f e m rs
 
 array-closed : (read : Reader) (d : ℕ) (s : List ℕ) (counts : Counts) (kind at n : ℕ)
-    → array read d s counts kind at n ≡ closed (shapeThen (read counts Place.Type (at + 1) (n + 1)) (shapeOf d s kind)) at
-unfolding shapeOf lowsOf closed shapePrepend
+    → array read d s counts kind at n ≡ closed (shapeThen (read counts Place.Type (at + 1) (n + 1)) (shapeAt d s kind)) at
+unfolding shapeAt lowsAt closed shapePrepend
 array-closed read d s counts kind at n =
     bind-first at (read counts Place.Type (at + 1) (n + 1)) _ _
     (λ at₁ n₁ ts. number-closed at ts (countAt 1 maxRank s at₁) at₁ _ _
     (λ rank at₂. number-closed at ts (countAt 0 rank s at₂) at₂ _ _
-    (λ sizes at₃. bind-closed at ts (many (bound SIZE d s) sizes at₃ n₁) _ _
+    (λ sizes at₃. bind-closed at ts (many (size d s) sizes at₃ n₁) _ _
     (λ at₄ n₂ ss. number-closed at (ts ++ ss) (countAt 0 rank s at₄) at₄ _ _
-    (λ lows at₅. bind-closed at (ts ++ ss) (many (bound LOW d s) lows at₅ n₂) _ _
+    (λ lows at₅. bind-closed at (ts ++ ss) (many (low d s) lows at₅ n₂) _ _
     (λ at₆ n₃ ls. rw (append-nil ((ts ++ ss) ++ ls), append-assoc ts ss ls)))))))
 
 close-stop : (t : ShapeOut) (n n′ c p at : ℕ) (r : Shape) (o₀ o₁ : List ℕ) → Shaped t n′ r o₀ o₁ → r ≡ Shape.Stop c p → Walked (closed t at) n (Stop c p) o₀ o₁
@@ -364,16 +372,16 @@ close-small (shaped q e₁ m₁ rs) n n′ e m at h r o₀ o₁ (holds g) t x =
 -- ---- array_at
 
 module _ (d : ℕ) (s : List ℕ) (counts : Counts) (kind at n : ℕ) (w : Walk) (o o₁ : List ℕ) (x : Walked (node d s counts Place.Type (at + 1) (n + 1)) (n + 1) w o o₁) where
-  pub array-stop : (c q : ℕ) → w ≡ Stop c q → Walked (arrayOf d s counts kind at n) n (Stop c q) o o₁
+  pub array-stop : (c q : ℕ) → w ≡ Stop c q → Walked (array (node d s) d s counts kind at n) n (Stop c q) o o₁
   array-stop c q g =
       walked-is _ _ n _ o o₁ (array-closed (node d s) d s counts kind at n)
-      (close-stop _ n (n + 1) c q at (Shape.Stop c q) o o₁ (shape-halt _ (shapeOf d s kind) (n + 1) c q w o o₁ x g) refl)
+      (close-stop _ n (n + 1) c q at (Shape.Stop c q) o o₁ (shape-halt _ (shapeAt d s kind) (n + 1) c q w o o₁ x g) refl)
 
-  module _ (e m : ℕ) (g : w ≡ Next e m) (t : Shape) (o₂ : List ℕ) (y : Shaped (shapeOf d s kind e m) m t o₁ o₂) where
-    joined : Shaped (shapeThen (node d s counts Place.Type (at + 1) (n + 1)) (shapeOf d s kind)) (n + 1) t o o₂
-    joined = shape-then _ (shapeOf d s kind) (n + 1) e m w t o o₁ o₂ (ends-node s d counts Place.Type (at + 1) (n + 1)) x g y
+  module _ (e m : ℕ) (g : w ≡ Next e m) (t : Shape) (o₂ : List ℕ) (y : Shaped (shapeAt d s kind e m) m t o₁ o₂) where
+    joined : Shaped (shapeThen (node d s counts Place.Type (at + 1) (n + 1)) (shapeAt d s kind)) (n + 1) t o o₂
+    joined = shape-then _ (shapeAt d s kind) (n + 1) e m w t o o₁ o₂ (ends-node s d counts Place.Type (at + 1) (n + 1)) x g y
 
-    pub array-cut : (c q : ℕ) → t ≡ Shape.Stop c q → Walked (arrayOf d s counts kind at n) n (Stop c q) o o₂
+    pub array-cut : (c q : ℕ) → t ≡ Shape.Stop c q → Walked (array (node d s) d s counts kind at n) n (Stop c q) o o₂
     array-cut c q u = walked-is _ _ n _ o o₂ (array-closed (node d s) d s counts kind at n) (close-stop _ n (n + 1) c q at t o o₂ joined u)
 
     pub array-small : (h : Head) (e₂ m₂ : ℕ) → t ≡ Shape.Done h e₂ m₂ → m₂ ≤ maxNodes
@@ -381,6 +389,6 @@ module _ (d : ℕ) (s : List ℕ) (counts : Counts) (kind at n : ℕ) (w : Walk)
         close-small _ n (n + 1) e₂ m₂ at h t o o₂
         (subst (Holds (Ends n)) (array-closed (node d s) d s counts kind at n) (ends-array s (node d s) (ends-node s d) d counts kind at n)) joined u
 
-    pub array-done : (h : Head) (e₂ m₂ : ℕ) → t ≡ Shape.Done h e₂ m₂ → (r : Walk) (o₃ : List ℕ) → Sealed (Next e₂ m₂) n h at r o₂ o₃ → Walked (arrayOf d s counts kind at n) n r o o₃
+    pub array-done : (h : Head) (e₂ m₂ : ℕ) → t ≡ Shape.Done h e₂ m₂ → (r : Walk) (o₃ : List ℕ) → Sealed (Next e₂ m₂) n h at r o₂ o₃ → Walked (array (node d s) d s counts kind at n) n r o o₃
     array-done h e₂ m₂ u r o₃ z =
         walked-is _ _ n r o o₃ (array-closed (node d s) d s counts kind at n) (close-done _ n e₂ m₂ at h t r o o₂ o₃ joined u z)

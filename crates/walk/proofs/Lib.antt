@@ -1,4 +1,3 @@
 pub mod Stamp
-pub mod Opens
 pub mod Laws
 pub mod Steps

@@ -12,7 +12,7 @@ use lib.Seq.{sets, length-sets, sets-eq, set-set, set-comm, drop-at, take-append
 use lib.Dec.{leb}
 use Rattle.grammar.specs.Table.{entry, six, flat}
 use Rattle.grammar.specs.declared.Node.{Node}
-use Rattle.walk.specs.Walk.{putOf, putAfter, closes, stamp}
+use Rattle.walk.specs.Table.{putOf, putAfter, closeOf, stamp}
 
 -- by the value of a test, with its equation
 pub cond-by : {X : Type 0} (P : X → Type 0) (b : Bool) {x y : X} → (b ≡ true → P x) → (b ≡ false → P y) → P (cond b x y)
@@ -126,13 +126,13 @@ pub after-out : (o : List ℕ) (n a : ℕ) → length o < 6 * n + 6 → putAfter
 unfolding putAfter
 after-out o n a h = simp (lt-leb (6 * n + 6) (length o) h)
 
-pub closes-more : (o : List ℕ) (n k a : ℕ) → 0 < k → closes o n k a ≡ closes (putAfter o (n - 1) a) (n - 1) (k - 1) a
-unfolding closes
+pub closes-more : (o : List ℕ) (n k a : ℕ) → 0 < k → closeOf o n k a ≡ closeOf (putAfter o (n - 1) a) (n - 1) (k - 1) a
+unfolding closeOf
 closes-more o n zero a h = absurd (omega arith)
 closes-more o n (suc k) a h = let e : suc k - 1 ≡ k = omega arith in rw e
 
-pub closes-end : (o : List ℕ) (n k a : ℕ) → k ≤ 0 → closes o n k a ≡ o
-unfolding closes
+pub closes-end : (o : List ℕ) (n k a : ℕ) → k ≤ 0 → closeOf o n k a ≡ o
+unfolding closeOf
 closes-end o n zero a h = refl
 closes-end o n (suc k) a h = absurd (omega arith)
 

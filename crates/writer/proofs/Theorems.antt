@@ -13,26 +13,27 @@ use Rattle.number.specs.declared.token.Counts.{Counts}
 use Rattle.grammar.specs.Kinds.{maxKind}
 use Rattle.grammar.specs.Limits.{maxBytes}
 use Rattle.grammar.specs.Table.{flat}
-use Rattle.grammar.specs.Judge.{Out, fault, done, known, reading}
+use Rattle.grammar.specs.Judge.{Out, fault, done, knownCounts, reading}
 use Rattle.grammar.specs.Derives.{HasTable}
 use Rattle.grammar.specs.Writer.{Written, written, fitted, writing}
 use Rattle.grammar.specs.declared.Node.{Node}
 use Rattle.grammar.proofs.Emits.{length-flat}
 use Rattle.grammar.proofs.Reading.{nodes, read-accepted}
-use Rattle.grammar.proofs.Refusals.{read-refuses}
+use Rattle.grammar.proofs.Refusals.{read-refuses, refusal-byte}
 use Rattle.grammar.proofs.Writing as grammar
 use Rattle.reader.specs.Answer as reader
-use Rattle.reader.specs.declared.Answer.{Answer}
+use Rattle.answer.specs.declared.Answer.{Answer}
+use Rattle.answer.specs.Answers.{answer}
 use Rattle.reader.proofs.Theorems.{read-derived}
 use Rattle.writer.specs.Written.{answerOf, outputOf}
 
 -- What `write` answers and leaves: the one blob with the table, or a refusal and the output as it was. There is no sixth.
 pub data Verdict (kind : ℕ) (counts : Counts) (t o : List ℕ) : Answer → List ℕ → Type 0 where
-  unknown-kind : maxKind < kind → Verdict kind counts t o (reader.answer 12 0) o
-  too-many-rows : kind ≤ maxKind → known counts ≡ false → Verdict kind counts t o (reader.answer 13 0) o
-  no-blob : kind ≤ maxKind → known counts ≡ true → ((s : List ℕ) → HasTable kind counts s t → ⊥) → Verdict kind counts t o (reader.answer 14 0) o
-  short : (s : List ℕ) → HasTable kind counts s t → length o < length s → Verdict kind counts t o (reader.answer 15 (length s)) o
-  given : (s : List ℕ) → HasTable kind counts s t → length s ≤ length o → Verdict kind counts t o (reader.answer 0 (length s)) (s ++ drop (length s) o)
+  unknown-kind : maxKind < kind → Verdict kind counts t o (answer 12 0) o
+  too-many-rows : kind ≤ maxKind → knownCounts counts ≡ false → Verdict kind counts t o (answer 13 0) o
+  no-blob : kind ≤ maxKind → knownCounts counts ≡ true → ((s : List ℕ) → HasTable kind counts s t → ⊥) → Verdict kind counts t o (answer 14 0) o
+  short : (s : List ℕ) → HasTable kind counts s t → length o < length s → Verdict kind counts t o (answer 15 (length s)) o
+  given : (s : List ℕ) → HasTable kind counts s t → length s ≤ length o → Verdict kind counts t o (answer 0 (length s)) (s ++ drop (length s) o)
 
 module _ (kind : ℕ) (counts : Counts) (t : List ℕ) where
   pub write-verdict : (o : List ℕ) → Verdict kind counts t o (answerOf (writing kind counts t (length o))) (outputOf (writing kind counts t (length o)) o)
@@ -60,14 +61,14 @@ module _ (kind : ℕ) (counts : Counts) (t : List ℕ) where
 
   -- reading what was written gives the table back, in as many records as the table has
   pub read-written : (room : ℕ) (s u : List ℕ) → writing kind counts t room ≡ written s → length t ≤ length u
-      → (reader.answerOf (reading kind counts s (length u / 6)) ≡ reader.answer 0 (length t / 6)) × (reader.tableOf (reading kind counts s (length u / 6)) u ≡ t ++ drop (length t) u)
+      → (reader.answerOf (reading kind counts s (length u / 6)) ≡ answer 0 (length t / 6)) × (reader.tableOf (reading kind counts s (length u / 6)) u ≡ t ++ drop (length t) u)
   read-written room s u e l =
       let h = grammar.writes kind counts t room s e .0 in
       let c : h .nodes ≡ length (h .records) = nodes kind counts s (h .signature) .count ∙ omega arith in
       let m : length t ≡ 6 * (h .nodes) = sym (ap length (h .table)) ∙ length-flat (h .records) ∙ ap (λ (n : ℕ). 6 * n) (sym c) in
       let d : h .nodes ≡ length t / 6 = omega arith in
       let r = read-derived kind counts s u (h .nodes) (h .records) (h .signature) (omega arith) in
-      (r .0 ∙ ap (reader.answer 0) d, r .1 ∙ ap (λ (x : List ℕ). x ++ drop (6 * (h .nodes)) u) (h .table) ∙ ap (λ (n : ℕ). t ++ drop n u) (sym m))
+      (r .0 ∙ ap (answer 0) d, r .1 ∙ ap (λ (x : List ℕ). x ++ drop (6 * (h .nodes)) u) (h .table) ∙ ap (λ (n : ℕ). t ++ drop n u) (sym m))
 
 module _ (kind : ℕ) (counts : Counts) (s u : List ℕ) (room : ℕ) (bytes : Bytes s) where
   done-back : (at n : ℕ) (rs : List Node) → reading kind counts s (length u / 6) ≡ done at n rs
@@ -82,15 +83,15 @@ module _ (kind : ℕ) (counts : Counts) (s u : List ℕ) (room : ℕ) (bytes : B
       ∙ grammar.writable kind counts (flat rs) room s record { bytes = bytes; nodes = n; records = rs; signature = g; table = refl }
 
   -- writing the records that were read gives the blob back, or 15 with its length
-  pub write-read : (n : ℕ) → reader.answerOf (reading kind counts s (length u / 6)) ≡ reader.answer 0 n
+  pub write-read : (n : ℕ) → reader.answerOf (reading kind counts s (length u / 6)) ≡ answer 0 n
       → writing kind counts (take (6 * n) (reader.tableOf (reading kind counts s (length u / 6)) u)) room ≡ fitted room s
   unfolding reader.answerOf
   write-read n e = go (reading kind counts s (length u / 6)) refl e
     where
-      go : (x : Out) → reading kind counts s (length u / 6) ≡ x → reader.answerOf x ≡ reader.answer 0 n
+      go : (x : Out) → reading kind counts s (length u / 6) ≡ x → reader.answerOf x ≡ answer 0 n
           → writing kind counts (take (6 * n) (reader.tableOf (reading kind counts s (length u / 6)) u)) room ≡ fitted room s
       go (fault code place) g q =
           let z : code ≡ 0 = ap (λ (a : Answer). a .code) q in
-          let r = read-refuses kind counts s (length u / 6) code place g .0 in
+          let r = refusal-byte code (read-refuses kind counts s (length u / 6) code place g .0) in
           absurd (omega arith)
       go (done at m rs) g q = let z : m ≡ n = ap (λ (a : Answer). a .place) q in done-back at n rs (g ∙ ap (λ (k : ℕ). done at k rs) z)

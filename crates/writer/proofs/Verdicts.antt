@@ -12,45 +12,44 @@ use borrow.Author.Tests.{le-leb, lt-leb}
 use Rattle.number.specs.declared.token.Counts.{Counts}
 use Rattle.grammar.specs.Limits.{maxBytes, maxDepth}
 use Rattle.grammar.specs.Kinds.{maxKind}
-use Rattle.grammar.specs.Judge.{fault, check, known, judge}
+use Rattle.grammar.specs.Judge.{fault, check, knownCounts, judge}
 use Rattle.grammar.specs.Emit.{Emitted, torn, wrote, times, emit, emitted}
-use Rattle.grammar.specs.Writer.{isTable, confirmed, writing}
-use Rattle.reader.specs.Answer as reader
-use Rattle.reader.specs.declared.Answer.{Answer}
+use Rattle.grammar.specs.Writer.{hasTable, confirmed, writing}
+use Rattle.answer.specs.declared.Answer.{Answer}
+use Rattle.answer.specs.Answers.{answer}
 use Rattle.emission.specs.Emission.{resultOf, leavesOf, Emits}
 use Rattle.emission.specs.declared.Emit.{Emit}
 use Rattle.emission.specs.declared.Emit.the-variants.{Next, Stop}
 use Rattle.emission.proofs.Laws.{clash, Fit, fits, over, fit, emits-is, found, next-within, times-one}
-use Rattle.writer.specs.Written.{answerOf, outputOf}
+use Rattle.writer.specs.Written.{answerOf, outputOf, Writes}
 
 -- ---- copy_confirmed: s is the blob, o the output
 
 -- more bytes than a blob has are refused
-judge-long : (kind : ℕ) (counts : Counts) (s t : List ℕ) → maxBytes < length s → isTable t (judge kind counts s) ≡ false
-unfolding isTable judge
-judge-long kind counts s t h = rw (lt-leb _ _ h) (go (leb kind maxKind) (known counts))
+judge-long : (kind : ℕ) (counts : Counts) (s t : List ℕ) → maxBytes < length s → hasTable t (judge kind counts s) ≡ false
+unfolding hasTable judge
+judge-long kind counts s t h = rw (lt-leb _ _ h) (go (leb kind maxKind) (knownCounts counts))
   where
-    go : (u v : Bool) → isTable t (check u 12 0 (λ _. check v 13 0 (λ _. fault 1 0))) ≡ false
+    go : (u v : Bool) → hasTable t (check u 12 0 (λ _. check v 13 0 (λ _. fault 1 0))) ≡ false
     go true true = refl
     go true false = refl
     go false v = refl
 
 -- an answer and an output are those of what the writer gives
 abbrev Gives : Answer → (after before : List ℕ) → (kind : ℕ) → Counts → List ℕ → Emitted → Type 0
-Gives r after before kind counts t q =
-    (r ≡ answerOf (confirmed kind counts t (length before) q)) × (after ≡ outputOf (confirmed kind counts t (length before) q) before)
+Gives r after before kind counts t q = Writes (confirmed kind counts t (length before) q) r before after
 
 module _ (kind : ℕ) (counts : Counts) (t s o : List ℕ) where
-  pub copy-not : false ≡ isTable t (judge kind counts s) → Gives (reader.answer 14 0) o o kind counts t (wrote s 0)
+  pub copy-not : false ≡ hasTable t (judge kind counts s) → Gives (answer 14 0) o o kind counts t (wrote s 0)
   unfolding answerOf outputOf
   copy-not e = rw (← e) (refl, refl)
 
-  module _ (e : true ≡ isTable t (judge kind counts s)) where
-    pub copy-short : length o < length s → Gives (reader.answer 15 (length s)) o o kind counts t (wrote s 0)
+  module _ (e : true ≡ hasTable t (judge kind counts s)) where
+    pub copy-short : length o < length s → Gives (answer 15 (length s)) o o kind counts t (wrote s 0)
     unfolding answerOf outputOf
     copy-short h = rw (← e, lt-leb (length s) (length o) h) (refl, refl)
 
-    pub copy-done : (o₁ : List ℕ) → length s ≤ length o → o₁ ≡ s ++ drop (length s) o → Gives (reader.answer 0 (length s)) o₁ o kind counts t (wrote s 0)
+    pub copy-done : (o₁ : List ℕ) → length s ≤ length o → o₁ ≡ s ++ drop (length s) o → Gives (answer 0 (length s)) o₁ o kind counts t (wrote s 0)
     unfolding answerOf outputOf
     copy-done o₁ h j = rw (← e, le-leb (length s) (length o) h) (refl, j)
 
@@ -90,36 +89,33 @@ module _ (t : List ℕ) (y : Emit) (b o₁ : List ℕ) (x : Emits (times (emit m
   write-copied kind counts o r o₂ h = rw blob-emitted h
 
 abbrev blank : List ℕ
-blank = replicate 4096 0
+blank = replicate maxBytes 0
 
-pub write-stop : (kind : ℕ) (counts : Counts) (t : List ℕ) (y : Emit) (o₁ : List ℕ) → Emits (times (emit maxDepth t) 1 0) 0 y blank o₁ → (o : List ℕ) → y ≡ Stop → Gives (reader.answer 14 0) o o kind counts t (emitted t)
+pub write-stop : (kind : ℕ) (counts : Counts) (t : List ℕ) (y : Emit) (o₁ : List ℕ) → Emits (times (emit maxDepth t) 1 0) 0 y blank o₁ → (o : List ℕ) → y ≡ Stop → Gives (answer 14 0) o o kind counts t (emitted t)
 unfolding answerOf outputOf resultOf
 write-stop kind counts t y o₁ x o g = go (emitted t) (whole t y blank o₁ x)
   where
-    by-fit : (bs : List ℕ) (n : ℕ) → Fit bs 0 (length blank) y (Next (0 + length bs) n) → Gives (reader.answer 14 0) o o kind counts t (wrote bs n)
+    by-fit : (bs : List ℕ) (n : ℕ) → Fit bs 0 (length blank) y (Next (0 + length bs) n) → Gives (answer 14 0) o o kind counts t (wrote bs n)
     by-fit bs n (fits h e) = clash (sym g ∙ e)
     by-fit bs n (over h e) =
-        let k : maxBytes < length bs = omega (arith, length-replicate {A = ℕ} 4096 0) in
+        let k : maxBytes < length bs = omega (arith, length-replicate {A = ℕ} maxBytes 0) in
         rw (judge-long kind counts bs t k) (refl, refl)
 
-    go : (q : Emitted) → Emits q 0 y blank o₁ → Gives (reader.answer 14 0) o o kind counts t q
+    go : (q : Emitted) → Emits q 0 y blank o₁ → Gives (answer 14 0) o o kind counts t q
     go torn z = (refl, refl)
     go (wrote bs n) z = by-fit bs n (fit bs n 0 (length blank) y (z .result))
 
 -- ---- write
 
 module _ (kind : ℕ) (counts : Counts) (t o : List ℕ) where
-  abbrev Writes : Answer → List ℕ → Type 0
-  Writes r after = (r ≡ answerOf (writing kind counts t (length o))) × (after ≡ outputOf (writing kind counts t (length o)) o)
-
-  pub write-kind : maxKind < kind → Writes (reader.answer 12 0) o
+  pub write-kind : maxKind < kind → Writes (writing kind counts t (length o)) (answer 12 0) o o
   unfolding writing answerOf outputOf
   write-kind h = rw (lt-leb _ _ h) (refl, refl)
 
-  pub write-rows : kind ≤ maxKind → known counts ≡ false → Writes (reader.answer 13 0) o
+  pub write-rows : kind ≤ maxKind → knownCounts counts ≡ false → Writes (writing kind counts t (length o)) (answer 13 0) o o
   unfolding writing answerOf outputOf
   write-rows h k = rw (le-leb _ _ h, k) (refl, refl)
 
-  pub write-known : (r : Answer) (o₁ : List ℕ) → kind ≤ maxKind → known counts ≡ true → Gives r o₁ o kind counts t (emitted t) → Writes r o₁
+  pub write-known : (r : Answer) (o₁ : List ℕ) → kind ≤ maxKind → knownCounts counts ≡ true → Gives r o₁ o kind counts t (emitted t) → Writes (writing kind counts t (length o)) r o o₁
   unfolding writing
   write-known r o₁ h k g = rw (le-leb _ _ h, k) g

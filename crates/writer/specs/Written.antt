@@ -1,10 +1,11 @@
 -- What the writer answers and what it leaves in the output (document 01, "Numbers on the panel").
 use Prim.Native.Nat.{ℕ}
+use mathlib.Core.Path.{_≡_}
 use mathlib.Core.List.{List, _++_}
 use lib.ListN.{length, drop}
 use Rattle.grammar.specs.Writer.{Written, refused, written}
-use Rattle.reader.specs.Answer.{answer}
-use Rattle.reader.specs.declared.Answer.{Answer}
+use Rattle.answer.specs.Answers.{answer}
+use Rattle.answer.specs.declared.Answer.{Answer}
 
 -- a refusal's number and place; 0 "done" with the bytes written
 unfoldable pub answerOf : Written → Answer
@@ -15,3 +16,7 @@ answerOf (written s) = answer 0 (length s)
 unfoldable pub outputOf : Written → List ℕ → List ℕ
 outputOf (refused code place) out = out
 outputOf (written s) out = s ++ drop (length s) out
+
+-- `write`: the answer, and the output before and after
+abbrev pub Writes : Written → Answer → (old new : List ℕ) → Type 0
+Writes w r old new = (r ≡ answerOf w) × (new ≡ outputOf w old)

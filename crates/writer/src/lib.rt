@@ -6,12 +6,13 @@ ghost use Prim.Native.Nat.{_≤_};
 ghost use lib.ListN.{length, drop};
 ghost use Rattle.grammar.specs.Emit.{wrote, emitted};
 ghost use Rattle.grammar.specs.Writer.{confirmed, writing};
-ghost use Rattle.writer.specs.Written.{answerOf, outputOf};
+ghost use Rattle.writer.specs.Written.{Writes};
+use answer::Answer;
 use emission::Emit;
+use grammar::MAX_BYTES;
 use grammar::MAX_DEPTH;
 use grammar::MAX_KIND;
 use number::token::Counts;
-use reader::Answer;
 
 // Copies `src` to the front of `out`.
 fn copy_to(out: &mut [u8], src: &[u8])
@@ -27,7 +28,7 @@ fn copy_to(out: &mut [u8], src: &[u8])
 
 // Writes the blob of this kind that has the table under these counts. A refusal leaves the output as it was.
 pub fn write(kind: u32, counts: Counts, table: &[u32], out: &mut [u8]) -> Answer
-    ensures { λ r. ⌜ (r ≡ answerOf (writing kind counts (now (table .entry)) (length (now (out .entry))))) × (now (out .exit) ≡ outputOf (writing kind counts (now (table .entry)) (length (now (out .entry)))) (now (out .entry))) ⌝ }
+    ensures { λ r. ⌜ Writes (writing kind counts (now (table .entry)) (length (now (out .entry)))) r (now (out .entry)) (now (out .exit)) ⌝ }
 {
     if MAX_KIND < kind {
         return Answer { code: 12, place: 0 };
@@ -41,7 +42,7 @@ pub fn write(kind: u32, counts: Counts, table: &[u32], out: &mut [u8]) -> Answer
 // The writer for a known kind and allowed counts. Few records are first emitted into few bytes, since the bytes are cleared; what does not fit there
 // is emitted again.
 fn write_known(kind: u32, counts: Counts, table: &[u32], out: &mut [u8]) -> Answer
-    ensures { λ r. ⌜ (r ≡ answerOf (confirmed kind counts (now (table .entry)) (length (now (out .entry))) (emitted (now (table .entry))))) × (now (out .exit) ≡ outputOf (confirmed kind counts (now (table .entry)) (length (now (out .entry))) (emitted (now (table .entry)))) (now (out .entry))) ⌝ }
+    ensures { λ r. ⌜ Writes (confirmed kind counts (now (table .entry)) (length (now (out .entry))) (emitted (now (table .entry)))) r (now (out .entry)) (now (out .exit)) ⌝ }
 {
     if table.len() <= 48 {
         let mut few = [0u8; 48];
@@ -57,7 +58,7 @@ fn write_known(kind: u32, counts: Counts, table: &[u32], out: &mut [u8]) -> Answ
             Emit::Stop => {}
         }
     }
-    let mut blob = [0u8; 4096];
+    let mut blob = [0u8; MAX_BYTES];
     match emission::all_at(&mut blob, MAX_DEPTH, table, 1, 0, 0) {
         Emit::Next { at, node } => copy_confirmed(kind, counts, &blob[..at], table, out),
         Emit::Stop => Answer { code: 14, place: 0 },
@@ -66,7 +67,7 @@ fn write_known(kind: u32, counts: Counts, table: &[u32], out: &mut [u8]) -> Answ
 
 // Copies an emitted blob to the output where the reader gives the table for it.
 fn copy_confirmed(kind: u32, counts: Counts, blob: &[u8], table: &[u32], out: &mut [u8]) -> Answer
-    ensures { λ r. ⌜ (r ≡ answerOf (confirmed kind counts (now (table .entry)) (length (now (out .entry))) (wrote (now (blob .entry)) 0))) × (now (out .exit) ≡ outputOf (confirmed kind counts (now (table .entry)) (length (now (out .entry))) (wrote (now (blob .entry)) 0)) (now (out .entry))) ⌝ }
+    ensures { λ r. ⌜ Writes (confirmed kind counts (now (table .entry)) (length (now (out .entry))) (wrote (now (blob .entry)) 0)) r (now (out .entry)) (now (out .exit)) ⌝ }
 {
     let len = blob.len();
     if reader::table::has_table(kind, counts, blob, table) {

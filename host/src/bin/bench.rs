@@ -350,7 +350,7 @@ mod jobs {
             "\nThe best of {RUNS} runs in turn. Ours are whole processes, less the time of one that does no job. Each row is asked, or filed once more with its \
              own blob while row 32 has a mark, so that the rows that reach the filed one are looked for: of 512 rows once, of 64 rows 1,000 times. Building the \
              register, a filing for each row with no mark anywhere, is in our time too, and less than a hundredth of it. The worst sheet has 512 rows in a \
-             cycle, the rest are presses; our time has its file read and its text written to nowhere in it. The reference's are calls in this process: it keeps \
+             cycle, the rest are acknowledgements; our time has its file read and its text written to nowhere in it. The reference's are calls in this process: it keeps \
              blobs and marks alone, and judges all blobs afresh in each call, or once for a sheet."
         )
         .expect("a string takes all");

@@ -130,13 +130,13 @@ fn by_input(panel: &Path, sheet: &[u8]) -> io::Result<Vec<u8>> {
     Ok(output.stdout)
 }
 
-/// The longest sheets, one of them all presses, one that is longer by far than any may be, and those with the most rows.
+/// The longest sheets, one of them all acknowledgements, one that is longer by far than any may be, and those with the most rows.
 fn edges() -> Vec<Vec<u8>> {
-    let mut presses = vec![0x02, 0x00, 0x00, 0x01, 0x01, 0x10, 0xC0, 0x00, 0xFF, 0xF6];
-    presses.resize(MOST_SHEET, 0x7F);
-    let one_more = [&presses[..], &[0x7F]].concat();
+    let mut acks = vec![0x02, 0x00, 0x00, 0x01, 0x01, 0x10, 0xC0, 0x00, 0xFF, 0xF6];
+    acks.resize(MOST_SHEET, 0x7F);
+    let one_more = [&acks[..], &[0x7F]].concat();
     let rows = sheet_of(0, 0, &vec![naming(&[1]); 64], &[]);
-    let mut sheets = vec![presses, one_more, rows, vec![0x02; 1_000_000]];
+    let mut sheets = vec![acks, one_more, rows, vec![0x02; 1_000_000]];
     sheets.extend(most_rows());
     sheets.extend(counts_of_blobs());
     sheets
@@ -150,7 +150,7 @@ fn most_rows() -> Vec<Vec<u8>> {
     for last in [&[0x08][..], &[0x10], &naming(&[MOST_SIZE + 1])] {
         sheets.push(sheet_of(0, 0, &line(MOST_SIZE, last), &twice));
     }
-    // 5 bytes of head, 512 blobs of 126 bytes behind their lengths, and no presses: 506 bytes are left.
+    // 5 bytes of head, 512 blobs of 126 bytes behind their lengths, and no acknowledgements: 506 bytes are left.
     for longer in [506, 507, 512] {
         let mut blobs = vec![vec![0x1D; 127]; longer];
         blobs.resize(512, vec![0x1D; 126]);

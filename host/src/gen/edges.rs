@@ -33,13 +33,38 @@ const ENDS: [&[u8]; 14] = [
     &[0x20, 0xE0],
 ];
 
+/// What stands before a number, or would in a blob of another kind.
+const LEADS: [&[u8]; 19] = [
+    &[],
+    &[0x13],
+    &[0x1E],
+    &[0x07],
+    &[0x08],
+    &[0x00],
+    &[0x10],
+    &[0x10, 0x02],
+    &[0x14, 0x08],
+    &[0x14, 0x08, 0x20],
+    &[0x14, 0x08, 0x20, 0x00],
+    &[0x14, 0x08, 0x20, 0x01],
+    &[0x15, 0x12, 0x09],
+    &[0x15, 0x12],
+    &[0x1F],
+    &[0x1B, 0x00],
+    &[0x06, 0x13],
+    &[0x06, 0x12],
+    &[0x06, 0x20],
+];
+
 pub fn edges() -> Vec<Case> {
     let mut cases = Vec::new();
     depths(&mut cases);
     nodes(&mut cases);
     two_faults(&mut cases);
+    faults_in_bounds(&mut cases);
     lengths(&mut cases);
     numbers(&mut cases);
+    first_bytes(&mut cases);
     counts(&mut cases);
     cases
 }
@@ -127,23 +152,26 @@ fn two_faults(cases: &mut Vec<Case>) {
     }
     for leaves in 1019..=1024 {
         for end in ENDS {
-            let mut blob = locals(leaves + 1, &[0x08]);
-            blob.truncate(blob.len() - 1);
-            blob.extend_from_slice(end);
-            add(cases, 2, BENCH, blob);
+            add(cases, 2, BENCH, [&but_the_last(leaves), end].concat());
         }
     }
     for leaves in 990..=994 {
         for end in ENDS.into_iter().chain([&[0x08][..]]) {
             for links in 30..=32 {
-                let mut blob = locals(leaves + 1, &[0x08]);
-                blob.truncate(blob.len() - 1);
-                blob.extend(vec![0x1D; links]);
-                blob.extend_from_slice(end);
-                add(cases, 2, BENCH, blob);
+                let links = vec![0x1D; links];
+                add(
+                    cases,
+                    2,
+                    BENCH,
+                    [&but_the_last(leaves), &links, end].concat(),
+                );
             }
         }
     }
+}
+
+/// The same in the sizes and the lower bounds of an array.
+fn faults_in_bounds(cases: &mut Vec<Case>) {
     for leaves in 1017..=1021 {
         for counts in [&[0x02, 0x02, 0x05][..], &[0x02, 0x00, 0x02, 0x05]] {
             for bound in [
@@ -154,15 +182,18 @@ fn two_faults(cases: &mut Vec<Case>) {
                 &[0xC0, 0, 0, 1],
                 &[0xE0],
             ] {
-                let mut blob = locals(leaves + 1, &[0x08]);
-                blob.truncate(blob.len() - 1);
-                blob.extend_from_slice(&[0x14, 0x08]);
-                blob.extend_from_slice(counts);
-                blob.extend_from_slice(bound);
-                add(cases, 2, BENCH, blob);
+                let array = [&[0x14, 0x08], counts, bound].concat();
+                add(cases, 2, BENCH, [but_the_last(leaves), array].concat());
             }
         }
     }
+}
+
+/// A LocalVarSig of so many leaves and a last local that is still to come.
+fn but_the_last(leaves: usize) -> Vec<u8> {
+    let mut blob = locals(leaves + 1, &[0x08]);
+    blob.pop();
+    blob
 }
 
 fn lengths(cases: &mut Vec<Case>) {
@@ -201,27 +232,7 @@ fn numbers(cases: &mut Vec<Case>) {
         for end in 0..=bytes.len() {
             let bytes = &bytes[..end];
             for kind in 0..5 {
-                for lead in [
-                    &[][..],
-                    &[0x13],
-                    &[0x1E],
-                    &[0x07],
-                    &[0x08],
-                    &[0x00],
-                    &[0x10],
-                    &[0x10, 0x02],
-                    &[0x14, 0x08],
-                    &[0x14, 0x08, 0x20],
-                    &[0x14, 0x08, 0x20, 0x00],
-                    &[0x14, 0x08, 0x20, 0x01],
-                    &[0x15, 0x12, 0x09],
-                    &[0x15, 0x12],
-                    &[0x1F],
-                    &[0x1B, 0x00],
-                    &[0x06, 0x13],
-                    &[0x06, 0x12],
-                    &[0x06, 0x20],
-                ] {
+                for lead in LEADS {
                     for tail in [&[][..], &[0x08], &[0x01], &[0x00, 0x08]] {
                         add(cases, kind, BENCH, [lead, bytes, tail].concat());
                         add(cases, kind, WIDE, [lead, bytes, tail].concat());
@@ -230,6 +241,10 @@ fn numbers(cases: &mut Vec<Case>) {
             }
         }
     }
+}
+
+/// Every first byte of a number of two bytes or more.
+fn first_bytes(cases: &mut Vec<Case>) {
     for first in 0x80..=0xFF_u8 {
         for second in [0x00, 0x7F, 0x80, 0xFF] {
             for tail in [&[][..], &[0x00], &[0x40, 0x00], &[0x3F, 0xFF], &[0, 0, 0]] {

@@ -241,16 +241,7 @@ impl Maker<'_> {
         }
         let inner = depth - 1;
         match (self.rng.below(20), spot) {
-            (0..=2, _) if self.nameable() => {
-                let byte = 0x1F + self.rng.below(2) as u8;
-                self.byte(byte);
-                self.token(true);
-                let spot = match spot {
-                    Spot::Pinned => Spot::Type,
-                    _ => spot,
-                };
-                self.item(spot, inner);
-            }
+            (0..=2, _) if self.nameable() => self.modified(spot, inner),
             (3, _) => {
                 self.byte(0x0F);
                 self.item(Spot::Target, inner);
@@ -268,21 +259,34 @@ impl Maker<'_> {
                 self.item(Spot::Pinned, inner);
             }
             (10..=11, _) => self.array(inner),
-            (12..=13, _) if self.nameable() => {
-                self.byte(0x15);
-                let form = 0x11 + self.rng.below(2) as u8;
-                self.byte(form);
-                self.token(false);
-                let count = if self.slip() { 0 } else { self.some(1) };
-                self.number(count);
-                self.items(count, Spot::Type, inner);
-            }
+            (12..=13, _) if self.nameable() => self.instance(inner),
             (14, _) => {
                 self.byte(0x1B);
                 self.method(inner, false);
             }
             _ => self.small(spot),
         }
+    }
+
+    fn modified(&mut self, spot: Spot, inner: usize) {
+        let byte = 0x1F + self.rng.below(2) as u8;
+        self.byte(byte);
+        self.token(true);
+        let spot = match spot {
+            Spot::Pinned => Spot::Type,
+            _ => spot,
+        };
+        self.item(spot, inner);
+    }
+
+    fn instance(&mut self, inner: usize) {
+        self.byte(0x15);
+        let form = 0x11 + self.rng.below(2) as u8;
+        self.byte(form);
+        self.token(false);
+        let count = if self.slip() { 0 } else { self.some(1) };
+        self.number(count);
+        self.items(count, Spot::Type, inner);
     }
 
     fn array(&mut self, inner: usize) {

@@ -26,8 +26,8 @@ pub fn sheet(rng: &mut Rng) -> Vec<u8> {
             None => row(rng, counts),
         })
         .collect();
-    let presses = presses(rng, size as usize);
-    let mut bytes = sheet_of(counts.type_defs, counts.type_refs, &blobs, &presses);
+    let acks = acks(rng, size as usize);
+    let mut bytes = sheet_of(counts.type_defs, counts.type_refs, &blobs, &acks);
     match rng.below(200) {
         0..=30 => damage_blob(rng, &mut bytes),
         31 => bytes.resize(MOST_SHEET + rng.below(2), 0x00),
@@ -36,8 +36,8 @@ pub fn sheet(rng: &mut Rng) -> Vec<u8> {
     bytes
 }
 
-/// The sheet of these counts, blobs and presses.
-pub fn sheet_of(type_defs: u32, type_refs: u32, blobs: &[Vec<u8>], presses: &[u32]) -> Vec<u8> {
+/// The sheet of these counts, blobs and acknowledgements.
+pub fn sheet_of(type_defs: u32, type_refs: u32, blobs: &[Vec<u8>], acks: &[u32]) -> Vec<u8> {
     let mut bytes = vec![0x02];
     put_number(&mut bytes, type_defs);
     put_number(&mut bytes, type_refs);
@@ -46,19 +46,19 @@ pub fn sheet_of(type_defs: u32, type_refs: u32, blobs: &[Vec<u8>], presses: &[u3
         put_number(&mut bytes, blob.len() as u32);
         bytes.extend(blob);
     }
-    put_number(&mut bytes, presses.len() as u32);
-    for &row in presses {
+    put_number(&mut bytes, acks.len() as u32);
+    for &row in acks {
         put_number(&mut bytes, row);
     }
     bytes
 }
 
-/// The longest sheet with these blobs, which are short: the rest are presses on the rows 1 to 127 in turn.
+/// The longest sheet with these blobs, which are short: the rest are acknowledgements on the rows 1 to 127 in turn.
 pub fn longest_sheet(blobs: &[Vec<u8>]) -> Vec<u8> {
-    // The number of presses takes four bytes in place of one.
+    // The number of acknowledgements takes four bytes in place of one.
     let rest = MOST_SHEET - sheet_of(0, 0, blobs, &[]).len() - 3;
-    let presses: Vec<u32> = (0..rest as u32).map(|turn| turn % 127 + 1).collect();
-    sheet_of(0, 0, blobs, &presses)
+    let acks: Vec<u32> = (0..rest as u32).map(|turn| turn % 127 + 1).collect();
+    sheet_of(0, 0, blobs, &acks)
 }
 
 /// An I4 behind modifiers that name these rows.
@@ -79,7 +79,7 @@ pub fn line(size: u32, last: &[u8]) -> Vec<Vec<u8>> {
 }
 
 /// Rows there are, the two beside them, and any number at all.
-fn presses(rng: &mut Rng, size: usize) -> Vec<u32> {
+fn acks(rng: &mut Rng, size: usize) -> Vec<u32> {
     (0..rng.below(2 * size + 2))
         .map(|_| match rng.below(12) {
             0 => rng.next() as u32 >> 3,

@@ -140,16 +140,7 @@ impl<S: Sink> Walk<'_, S> {
                 self.number(a)?;
             }
             0x14 => self.array(record, depth)?,
-            0x15 => {
-                demand((b == 0x11 || b == 0x12) && children >= 1)?;
-                self.byte(kind)?;
-                self.byte(b)?;
-                self.token(a, false)?;
-                self.number(children)?;
-                for _ in 0..children {
-                    self.item(Place::TYPE, depth + 1)?;
-                }
-            }
+            0x15 => self.instance(record, depth)?,
             0x1B => {
                 demand(a == 0 && b == 0 && children == 1)?;
                 self.byte(kind)?;
@@ -174,6 +165,18 @@ impl<S: Sink> Walk<'_, S> {
         demand(a == 0 && b == 0 && children == 1)?;
         self.byte(kind)?;
         self.item(inner, depth + 1)
+    }
+
+    fn instance(&mut self, [kind, a, b, children, _, _]: Record, depth: u32) -> Option<()> {
+        demand((b == 0x11 || b == 0x12) && children >= 1)?;
+        self.byte(kind)?;
+        self.byte(b)?;
+        self.token(a, false)?;
+        self.number(children)?;
+        for _ in 0..children {
+            self.item(Place::TYPE, depth + 1)?;
+        }
+        Some(())
     }
 
     fn array(&mut self, [kind, rank, sizes, children, _, _]: Record, depth: u32) -> Option<()> {

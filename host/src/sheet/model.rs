@@ -22,8 +22,8 @@ pub struct Asked {
 }
 
 impl Asked {
-    /// A press on a row that is there: 17, 18, or 0 and the row has a mark.
-    pub fn press(&mut self) -> u32 {
+    /// An acknowledgement of a row that is there: 17, 18, or 0 and the row has a mark.
+    pub fn acknowledge(&mut self) -> u32 {
         match (self.standing, self.mark) {
             (EMPTY | CLEAN, _) => 17,
             (_, 1) => 18,
@@ -116,7 +116,7 @@ impl Model {
             return 16;
         };
         let mut asked = self.ask(row);
-        let answer = asked.press();
+        let answer = asked.acknowledge();
         self.rows[index].mark = asked.mark == 1;
         answer
     }

@@ -27,7 +27,7 @@ use Rattle.emission.proofs.front_to.Reads as front-to-reads
 use Rattle.emission.proofs.less.Reads as less-reads
 use Rattle.emission.proofs.number_to.Reads as number-to-reads
 use Rattle.emission.proofs.pair_to.Reads as pair-to-reads
-use Rattle.emission.proofs.record_at.Reads as record-at-reads
+use Rattle.grammar.proofs.record_at.Reads as record-at-reads
 use Rattle.emission.proofs.+all_at+array_at+part_at.{statement}
 use Rattle.emission.proofs.+all_at+array_at+part_at.Tie.{close}
 
@@ -130,23 +130,24 @@ pub +all-at+array-at+part-at-spec : {M : Type 1} → statement M
     (array-at-at t)
     array-at.Post
     (λ c κs. search needs)
-    (λ c κs. search needs)
+    (λ c. search needs)
+    (λ c κs. (omega (arith, c .before .before .before .before .before .before .before .pre .0), omega (arith, c .before .before .before .before .before .before .before .pre .1)))
     (λ c. search needs)
     (λ c κs. search needs)
-    (λ c κs. (omega arith, times-below _ _ _ (c .before .before .before .before .before .before .before .before .before .before .before .before .before .before .before .before .before .before .pre .1) _ _ _ _ _ _ _ (c .before .before .before .before .before .before .before .before .before .before .all-at .ensures) (c .before .before .before .before .before .before .e .given .1)))
+    (λ c κs. (omega arith, times-below _ _ _ (omega (arith, c .before .before .before .before .before .before .before .before .before .before .before .before .before .before .before .before .before .before .pre .1)) _ _ _ _ _ _ _ (c .before .before .before .before .before .before .before .before .before .before .all-at .ensures) (c .before .before .before .before .before .before .e .given .1)))
     (λ c. search needs)
     (λ c κs. search needs)
     (λ c κs. search needs)
     (λ c κs. search needs)
-    (λ c κs. let p = c .before .before .before .before .before .before .before .before .before .before .before .before .before .before .before .before .before .before .before .before .before .before .before .before .before .before .before .before .before .before .before .pre in (omega (arith, p .0), times-below _ _ _ (times-below _ _ _ (p .1) _ _ _ _ _ _ _ (c .before .before .before .before .before .before .before .before .before .before .before .before .before .before .before .before .before .before .before .before .before .before .before .all-at .ensures) (c .before .before .before .before .before .before .before .before .before .before .before .before .before .before .before .before .before .before .before .e .given .1)) _ _ _ _ _ _ _ (c .before .before .before .before .before .before .before .before .before .before .before .before .all-at2 .ensures) (c .before .before .before .before .before .before .before .before .e2 .given .1)))
+    (λ c κs. let p = c .before .before .before .before .before .before .before .before .before .before .before .before .before .before .before .before .before .before .before .before .before .before .before .before .before .before .before .before .before .before .before .pre in (omega (arith, p .0), times-below _ _ _ (times-below _ _ _ (omega (arith, p .1)) _ _ _ _ _ _ _ (c .before .before .before .before .before .before .before .before .before .before .before .before .before .before .before .before .before .before .before .before .before .before .before .all-at .ensures) (c .before .before .before .before .before .before .before .before .before .before .before .before .before .before .before .before .before .before .before .e .given .1)) _ _ _ _ _ _ _ (c .before .before .before .before .before .before .before .before .before .before .before .before .all-at2 .ensures) (c .before .before .before .before .before .before .before .before .e2 .given .1)))
     (λ c. search needs)
     (λ c. search needs)
     (λ c. search (needs, c .before .before .before .before .before .before .before .before .before .before .before .before .before .before .before .before .before .before .before .before .before .before .before .before .before .before .all-at .kept .0, c .before .before .before .before .before .before .before .before .before .before .before .before .before .before .before .before .before .before .before .before .before .before .before .before .before .before .before .before .before .before .number-to .kept .0))
-    (λ c. array-next _ _ _ _ _ _ _ (spelt-then _ _ (c .before .before .before .before .before .before .before .before .before .before .before .before .before .before .before .before .before .before .before .before .before .before .before .before .before .before .before .before .before .before .number-to .ensures) (c .before .before .before .before .before .before .before .before .before .before .before .before .before .before .before .before .before .before .before .before .before .before .before .before .before .before .all-at .ensures)) _ _ (c .before .before .before .before .before .before .before .before .before .before .before .before .before .before .before .before .before .before .before .before .before .before .e .given .1) _ _ (spelt-then _ _ (c .before .before .before .before .before .before .before .before .before .before .before .before .before .before .before .before .before .before .before .pair-to .ensures) (c .before .before .before .before .before .before .before .before .before .before .before .before .before .before .before .all-at2 .ensures)) _ _ _ _ _ (c .before .before .before .before .before .before .before .before .before .before .before .e2 .given .1) (omega (arith, c .before .before .before .before .before .before .before .before .less2 .ensures, c .before .before .before .before .before .before .before .before .before .less .ensures)) (spelt-then _ _ (c .before .before .before .before .before .before .number-to2 .ensures) (c .before .before .all-at3 .ensures)))
+    (λ c. array-next _ _ _ _ _ _ _ _ _ (spelt-then _ _ (c .before .before .before .before .before .before .before .before .before .before .before .before .before .before .before .before .before .before .before .before .before .before .before .before .before .before .before .before .before .before .number-to .ensures) (c .before .before .before .before .before .before .before .before .before .before .before .before .before .before .before .before .before .before .before .before .before .before .before .before .before .before .all-at .ensures)) _ _ (c .before .before .before .before .before .before .before .before .before .before .before .before .before .before .before .before .before .before .before .before .before .before .e .given .1) _ _ (spelt-then _ _ (c .before .before .before .before .before .before .before .before .before .before .before .before .before .before .before .before .before .before .before .pair-to .ensures) (c .before .before .before .before .before .before .before .before .before .before .before .before .before .before .before .all-at2 .ensures)) _ _ _ _ _ (c .before .before .before .before .before .before .before .before .before .before .before .e2 .given .1) (omega (arith, c .before .before .before .before .before .before .before .before .less2 .ensures, c .before .before .before .before .before .before .before .before .before .less .ensures)) (spelt-then _ _ (c .before .before .before .before .before .before .number-to2 .ensures) (c .before .before .all-at3 .ensures)))
     (λ c. search needs)
-    (λ c. sizes-stop _ _ _ _ _ _ _ (spelt-then _ _ (c .before .before .before .before .before .before .before .before .before .before .before .before .before .before .before .before .before .before .before .number-to .ensures) (c .before .before .before .before .before .before .before .before .before .before .before .before .before .before .before .all-at .ensures)) _ _ (c .before .before .before .before .before .before .before .before .before .before .before .e .given .1) _ _ (spelt-then _ _ (c .before .before .before .before .before .before .before .before .pair-to .ensures) (c .before .before .before .before .all-at2 .ensures)) (c .enum-told .given .1))
+    (λ c. sizes-stop _ _ _ _ _ _ _ _ _ (spelt-then _ _ (c .before .before .before .before .before .before .before .before .before .before .before .before .before .before .before .before .before .before .before .number-to .ensures) (c .before .before .before .before .before .before .before .before .before .before .before .before .before .before .before .all-at .ensures)) _ _ (c .before .before .before .before .before .before .before .before .before .before .before .e .given .1) _ _ (spelt-then _ _ (c .before .before .before .before .before .before .before .before .pair-to .ensures) (c .before .before .before .before .all-at2 .ensures)) (c .enum-told .given .1))
     (λ c. search needs)
-    (λ c. array-stop _ _ _ _ _ _ _ (spelt-then _ _ (c .before .before .before .before .before .before .before .before .number-to .ensures) (c .before .before .before .before .all-at .ensures)) (c .enum-told2 .given .1)))
+    (λ c. array-stop _ _ _ _ _ _ _ _ _ (spelt-then _ _ (c .before .before .before .before .before .before .before .before .number-to .ensures) (c .before .before .before .before .all-at .ensures)) (c .enum-told2 .given .1)))
     λ t. part-at-lts.spec (
       record-at-reads.Asked,
       record-at-reads.Learnt,
@@ -163,8 +164,7 @@ pub +all-at+array-at+part-at-spec : {M : Type 1} → statement M
     (λ c. emit-past _ _ _ _ _ (c .before .if1 .left) (c .if2 .taken))
     (λ c κs. search needs)
     (λ c. search needs)
-    (λ c. search needs)
-    (λ c κs. search needs)
+    (λ c κs. (omega (arith, c .before .before .before .before .before .before .before .before .pre .0, c .before .before .before .before .before .if1 .left), omega (arith, c .before .before .before .before .if2 .left)))
     (λ c. search needs)
     (λ c. search needs)
     (λ c. search needs)

@@ -1,23 +1,21 @@
 -- `layout::sections_of` meets its contract: two loops left by a label. Assumes nothing.
 use borrow.Author.Needs.{needs}
-use mathlib.Core.Path.{_≡_, ap}
+use mathlib.Core.Path.{_≡_, refl}
 use native.Mathlib.Omega.{arith}
 use Prim.Native.Nat.{_+_, _-_, _≤_}
-use denote.Ref.{now}
-use Rattle.layout.specs.Layout.{itemOf, items, noLayout, sections}
-use Rattle.layout.specs.declared.Layout.{Layout}
+use Rattle.layout.specs.Layout.{itemAt, items, sections, sectionsOf}
 use Rattle.layout.proofs.Walks.{all-read, left-over, count-bad, count-good, item-bad, item-good, section-read}
 use Rattle.layout.proofs.sections_of.Statement.{statement}
 use Rattle.layout.proofs.sections_of.Tie as tie
 
 abbrev Inv-loop : tie.InvT-loop
-Inv-loop s layout at₀ section left₀ at left = items (itemOf section s) left at (λ end. sections (2 - section) (section + 1) s end layout) ≡ sections 3 0 s 0 noLayout
+Inv-loop s layout at₀ section left₀ at left = items (itemAt section s) left at (λ end. sections (2 - section) (section + 1) s end layout) ≡ sectionsOf s
 
 abbrev μ-loop : tie.MeasureT-loop
 μ-loop s layout at₀ section left₀ at left = left
 
 abbrev Inv-sheet : tie.InvT-sheet
-Inv-sheet s layout₀ at₀ section₀ layout at section = (section ≤ 3) × (sections (3 - section) section s at layout ≡ sections 3 0 s 0 noLayout)
+Inv-sheet s layout₀ at₀ section₀ layout at section = (section ≤ 3) × (sections (3 - section) section s at layout ≡ sectionsOf s)
 
 abbrev μ-sheet : tie.MeasureT-sheet
 μ-sheet s layout₀ at₀ section₀ layout at section = 3 - section
@@ -30,8 +28,7 @@ sections-of-spec =
     μ-loop
     Inv-sheet
     μ-sheet
-    (λ c κs. search needs)
-    (λ c. (search needs, ap (λ (l : Layout). sections 3 0 (now (c .before .before .args .s)) 0 l) (c .blank-layout .ensures)))
+    (λ c. (search needs, refl))
     (λ c. all-read _ _ _ _ (c .before .if1 .taken) (c .if2 .left) (c .before .before .sheet .inv .1))
     (λ c κs. search needs)
     (λ c. search needs)

@@ -15,8 +15,8 @@ returns c =
     let a = c .before .before .args in
     subst (λ (x : ℕ). RowRelaxed (a .w) (a .k) x (now (a .m)) (now (a .m))) (sym (c .if1 .taken)) (relaxed-self (a .w) (a .k) (now (a .m)))
 
-get-requires : tie.Need-get-requires
-get-requires c κs =
+bit-at-requires : tie.Need-bit-at-requires
+bit-at-requires c κs =
     let a = c .before .before .before .args in
     omega (arith, row-in (a .n) (a .w) (a .i) (c .before .before .before .pre .3))
 
@@ -51,7 +51,7 @@ relax-row-spec =
     tie.close
     (tie.spec
     returns
-    get-requires
+    bit-at-requires
     mul-or-words
     mul-or-words-2
     or-words-requires

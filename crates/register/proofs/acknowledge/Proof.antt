@@ -3,25 +3,26 @@ use borrow.Author.Needs.{needs}
 use borrow.Author.Tests.{eq-eqb, ne-eqb}
 use mathlib.Core.Path.{sym, _∙_}
 use native.Mathlib.Omega.{arith}
-use Rattle.register.specs.Calls.{ackOf}
-use Rattle.answer.proofs.Gates.{gate-ok}
+use Rattle.register.specs.Calls.{acknowledgeOf}
+use Rattle.answer.proofs.Admits.{admit-ok}
 use Rattle.register.proofs.acknowledge.Statement.{statement}
 use Rattle.register.proofs.acknowledge.Tie as tie
 
 returns : tie.Need-returns
-unfolding ackOf
-returns c = simp (← c .before .admit .ensures, ne-eqb _ _ (c .if1 .taken))
+unfolding acknowledgeOf
+returns c = simp (← c .before .admit-code .ensures, ne-eqb _ _ (c .if1 .taken))
 
 returns-2 : tie.Need-returns-2
-unfolding ackOf
-returns-2 c = simp (← c .before .before .admit .ensures, eq-eqb _ _ (c .before .if1 .left)) (c .acknowledge-at .ensures)
+unfolding acknowledgeOf
+returns-2 c = simp (← c .before .before .admit-code .ensures, eq-eqb _ _ (c .before .if1 .left)) (c .acknowledge-at .ensures)
 
 pub acknowledge-spec : {M : Type 1} → statement M
 acknowledge-spec =
     tie.close
     (tie.spec
+    (λ c. search needs)
     (λ c κs. search needs)
     returns
-    (λ c. let h = gate-ok _ _ _ (sym (c .before .admit .ensures) ∙ c .if1 .left) in omega arith)
-    (λ c κs. let h = gate-ok _ _ _ (sym (c .before .admit .ensures) ∙ c .if1 .left) in omega arith)
+    (λ c. let h = admit-ok _ _ _ (sym (c .before .admit-code .ensures) ∙ c .if1 .left) in omega arith)
+    (λ c κs. let h = admit-ok _ _ _ (sym (c .before .admit-code .ensures) ∙ c .if1 .left) in omega arith)
     returns-2)

@@ -4,25 +4,26 @@ use borrow.Author.Tests.{eq-eqb, ne-eqb}
 use mathlib.Core.Path.{sym, _∙_}
 use native.Mathlib.Omega.{arith}
 use Rattle.register.specs.Calls.{fileOf}
-use Rattle.answer.proofs.Gates.{gate-ok}
+use Rattle.answer.proofs.Admits.{admit-ok}
 use Rattle.register.proofs.file.Statement.{statement}
 use Rattle.register.proofs.file.Tie as tie
 
 returns : tie.Need-returns
 unfolding fileOf
-returns c = simp (← c .before .admit .ensures, ne-eqb _ _ (c .if1 .taken))
+returns c = simp (← c .before .admit-code .ensures, ne-eqb _ _ (c .if1 .taken))
 
 returns-2 : tie.Need-returns-2
 unfolding fileOf
-returns-2 c = simp (← c .before .before .before .before .before .admit .ensures, eq-eqb _ _ (c .before .before .before .before .if1 .left)) (c .before .before .file-at .ensures)
+returns-2 c = simp (← c .before .before .before .before .before .admit-code .ensures, eq-eqb _ _ (c .before .before .before .before .if1 .left)) (c .before .before .file-at .ensures)
 
 pub file-spec : {M : Type 1} → statement M
 file-spec =
     tie.close
     (tie.spec
+    (λ c. search needs)
     (λ c κs. search needs)
     returns
-    (λ c. let h = gate-ok _ _ _ (sym (c .before .admit .ensures) ∙ c .if1 .left) in omega arith)
-    (λ c κs. let h = gate-ok _ _ _ (sym (c .before .before .admit .ensures) ∙ c .before .if1 .left) in omega arith)
+    (λ c. let h = admit-ok _ _ _ (sym (c .before .admit-code .ensures) ∙ c .if1 .left) in omega arith)
+    (λ c κs. let h = admit-ok _ _ _ (sym (c .before .before .admit-code .ensures) ∙ c .before .if1 .left) in omega arith)
     (λ c. search needs)
     returns-2)

@@ -4,7 +4,7 @@ use borrow.Author.Tests.{eq-eqb, ne-eqb}
 use mathlib.Core.Path.{sym, ap, ap₂, _∙_}
 use native.Mathlib.Omega.{arith}
 use denote.Ref.{now}
-use Rattle.register.specs.Calls.{openOf, changed, left}
+use Rattle.register.specs.Calls.{openOf, changed, left, blankRegister}
 use Rattle.register.specs.declared.Register.{Register}
 use Rattle.register.proofs.Openings.{open-ok}
 use Rattle.register.proofs.open.Statement.{statement}
@@ -12,11 +12,11 @@ use Rattle.register.proofs.open.Tie as tie
 
 returns : tie.Need-returns
 unfolding openOf
-returns c = simp (← c .before .before .opening-code .ensures, ne-eqb _ _ (c .before .if1 .taken)) (ap (λ (x : Register). left (changed (c .before .before .opening-code .result) x) (now (c .before .before .before .before .args .sets))) (c .blank-register .ensures))
+returns c = simp (← c .before .before .before .open-code .ensures, ne-eqb _ _ (c .before .before .if1 .taken)) (ap (λ (x : Register). left (changed (c .before .before .before .open-code .result) x) (now (c .before .before .before .before .before .args .sets))) (c .blank-register .ensures ∙ ap blankRegister (c .before .no-counts .ensures)))
 
 returns-2 : tie.Need-returns-2
 unfolding openOf
-returns-2 c = simp (← c .before .before .before .before .before .before .opening-code .ensures, eq-eqb _ _ (c .before .before .before .before .before .if1 .left)) (ap₂ (λ x l. left (changed 0 x) l) (c .blank-register2 .ensures) (c .before .before .before .clear .ensures))
+returns-2 c = simp (← c .before .before .before .before .before .before .before .open-code .ensures, eq-eqb _ _ (c .before .before .before .before .before .before .if1 .left)) (ap₂ (λ x l. left (changed 0 x) l) (c .blank-register2 .ensures) (c .before .before .before .clear-words .ensures))
 
 pub open-spec : {M : Type 1} → statement M
 open-spec =
@@ -24,9 +24,11 @@ open-spec =
     (tie.spec
     (λ c κs. search needs)
     (λ c κs. search needs)
+    (λ c κs. search needs)
     returns
-    (λ c. let h = open-ok _ _ _ _ (sym (c .before .before .opening-code .ensures) ∙ c .before .if1 .left) in omega arith)
-    (λ c κs. let h = open-ok _ _ _ _ (sym (c .before .before .opening-code .ensures) ∙ c .before .if1 .left) in omega arith)
+    (λ c. search needs)
+    (λ c. let h = open-ok _ _ (sym (c .before .before .before .open-code .ensures) ∙ c .before .before .if1 .left) in omega arith)
+    (λ c κs. let h = open-ok _ _ (sym (c .before .before .before .open-code .ensures) ∙ c .before .before .if1 .left) in omega arith)
     (λ c κs. search needs)
     (λ c. search needs)
     returns-2)

@@ -12,8 +12,9 @@ pub fill-spec : {M : Type 1} → statement M
 fill-spec =
     tie.close
     (tie.spec
+    (λ c. search needs)
     (λ c κs. search needs)
     (λ c. search needs)
-    (λ c κs. let hm : length (c .before .before .before .before .before .before .before .before .before .before .before .args .g .marks) ≡ maxSize = search needs in (c .before .before .before .before .before .before .before .before .before .before .before .pre .1, omega (arith, hm, c .before .before .before .before .before .before .before .before .before .before .before .pre .0)))
+    (λ c κs. let hm : length (c .before .before .before .before .before .before .before .before .before .before .before .before .args .g .marks) ≡ maxSize = search needs in (c .before .before .before .before .before .before .before .before .before .before .before .before .pre .1, omega (arith, hm, c .before .before .before .before .before .before .before .before .before .before .before .before .pre .0)))
     (λ c. search needs)
-    (λ c. prints-then _ _ _ _ _ _ _ _ (c .before .before .before .before .before .before .before .before .before .head-to .ensures) (c .before .before .before .acks-to .ensures .0) .1))
+    (λ c. prints-then _ _ _ _ _ _ _ _ (c .before .before .before .before .before .before .before .before .before .head-to .ensures) (c .before .before .before .acks-by .ensures .0) .1))

@@ -12,4 +12,4 @@ head-to-spec =
     (λ c κs. search needs)
     (λ c κs. search needs)
     (λ c. search needs)
-    (λ c. prints-then _ _ _ _ _ _ _ _ (c .before .before .before .before .before .before .text-to .ensures) (c .before .before .rows-to .ensures)))
+    (λ c. prints-then _ _ _ _ _ _ _ _ (c .before .before .before .before .before .before .text-to .ensures) (c .before .before .rows-by .ensures)))

@@ -11,7 +11,7 @@ print-refusal-spec =
     (tie.spec
     (λ c. search needs)
     (λ c κs. search needs)
-    (λ c. runs-short _ (refusal-length _) (c .before .before .refusal-to .ensures .0) _ (c .if1 .taken))
+    (λ c. runs-short _ (refusal-length _) (c .before .before .refusal-line-to .ensures .0) _ (c .if1 .taken))
     (λ c κs. search needs)
     (λ c. search needs)
-    (λ c. runs-fits _ (refusal-length _) (c .before .before .before .before .before .before .refusal-to .ensures .0) _ (c .before .before .before .before .if1 .left) (c .before .before .refusal-to2 .ensures .1)))
+    (λ c. runs-fits _ (refusal-length _) (c .before .before .before .before .before .before .refusal-line-to .ensures .0) _ (c .before .before .before .before .if1 .left) (c .before .before .refusal-line-to2 .ensures .1)))

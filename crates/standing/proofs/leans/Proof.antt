@@ -6,14 +6,14 @@ use Prim.Native.Nat.{ℕ, _≤_, _-_}
 use mathlib.Core.Bool.{false}
 use denote.Ref.{now}
 use Rattle.standing.specs.Standing.{any}
-use Rattle.standing.specs.Closed.{leansIn}
+use Rattle.standing.specs.Closed.{leansOn}
 use Rattle.standing.proofs.Standings.{any-none, any-more, any-intro}
 use Rattle.bits.proofs.BitLaws.{row-in}
 use Rattle.standing.proofs.leans.Statement.{statement}
 use Rattle.standing.proofs.leans.Tie as tie
 
 abbrev Inv-loop : tie.InvT-loop
-Inv-loop m w states n i j₀ j = (j ≤ n) × (any j (leansIn w m states i) ≡ false)
+Inv-loop m w states n i j₀ j = (j ≤ n) × (any j (leansOn w m states i) ≡ false)
 
 abbrev μ-loop : tie.MeasureT-loop
 μ-loop m w states n i j₀ j = n - j
@@ -29,7 +29,7 @@ returns-2 : tie.Need-returns-2 Inv-loop μ-loop
 returns-2 c =
     let a = c .before .before .before .before .args in
     let e : c .before .loop .j ≡ a .n = omega arith in
-    sym (subst (λ (k : ℕ). any k (leansIn (a .w) (now (a .m)) (now (a .states)) (a .i)) ≡ false) e (c .before .loop .inv .1))
+    sym (subst (λ (k : ℕ). any k (leansOn (a .w) (now (a .m)) (now (a .states)) (a .i)) ≡ false) e (c .before .loop .inv .1))
 
 pub leans-spec : {M : Type 1} → statement M
 leans-spec =

@@ -10,4 +10,4 @@ loses-spec =
     (tie.spec
     (λ c. simp (eq-eqb _ _ (c .if1 .taken)))
     (λ c κs. search needs)
-    (λ c. simp (ne-eqb _ _ (c .before .if1 .left)) (c .get .ensures)))
+    (λ c. simp (ne-eqb _ _ (c .before .if1 .left)) (c .bit-at .ensures)))

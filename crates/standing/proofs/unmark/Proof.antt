@@ -8,14 +8,14 @@ use mathlib.Core.List.{List}
 use lib.ListN.{set, length}
 use denote.Ref.{now}
 use Rattle.standing.specs.Standing.{cleared}
-use Rattle.standing.specs.Closed.{losesIn}
+use Rattle.standing.specs.Closed.{losesOf}
 use Rattle.standing.proofs.Standings.{cleared-none, cleared-set, cleared-kept, length-cleared}
 use Rattle.bits.proofs.BitLaws.{row-in}
 use Rattle.standing.proofs.unmark.Statement.{statement}
 use Rattle.standing.proofs.unmark.Tie as tie
 
 abbrev Inv-loop : tie.InvT-loop
-Inv-loop marks₀ m w n i j₀ marks j = (j ≤ n) × (marks ≡ cleared marks₀ j (losesIn w m i))
+Inv-loop marks₀ m w n i j₀ marks j = (j ≤ n) × (marks ≡ cleared marks₀ j (losesOf w m i))
 
 abbrev μ-loop : tie.MeasureT-loop
 μ-loop marks₀ m w n i j₀ marks j = n - j
@@ -38,15 +38,15 @@ loop-again c =
     let j = c .before .before .before .loop .j in
     let e = sym (c .before .loses .ensures) in (
       search needs,
-      ⊎-elim (λ x. x .1 ∙ ap (λ (l : List ℕ). set l j 0) i ∙ cleared-set (now (a .marks)) j (losesIn (a .w) (now (a .m)) (a .i)) (e ∙ x .0 .taken))
-          (λ x. x .1 ∙ i ∙ cleared-kept (now (a .marks)) j (losesIn (a .w) (now (a .m)) (a .i)) (e ∙ x .0 .left)) (c .if1 .came),
+      ⊎-elim (λ x. x .1 ∙ ap (λ (l : List ℕ). set l j 0) i ∙ cleared-set (now (a .marks)) j (losesOf (a .w) (now (a .m)) (a .i)) (e ∙ x .0 .taken))
+          (λ x. x .1 ∙ i ∙ cleared-kept (now (a .marks)) j (losesOf (a .w) (now (a .m)) (a .i)) (e ∙ x .0 .left)) (c .if1 .came),
     )
 
 returns : tie.Need-returns Inv-loop μ-loop
 returns c =
     let a = c .before .before .before .before .args in
     let e : c .before .loop .j ≡ a .n = omega arith in
-    subst (λ (k : ℕ). c .before .loop .marks ≡ cleared (now (a .marks)) k (losesIn (a .w) (now (a .m)) (a .i))) e (c .before .loop .inv .1)
+    subst (λ (k : ℕ). c .before .loop .marks ≡ cleared (now (a .marks)) k (losesOf (a .w) (now (a .m)) (a .i))) e (c .before .loop .inv .1)
 
 pub unmark-spec : {M : Type 1} → statement M
 unmark-spec =

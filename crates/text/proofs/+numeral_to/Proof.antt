@@ -8,7 +8,7 @@ use borrow.Fn.PlainCycle.{Measures, is, falls, and}
 use Rattle.text.proofs.numeral_to.Reads as numeral-to
 use Rattle.text.proofs.numeral_to.Kinds as numeral-to-kinds
 use Rattle.text.proofs.+numeral_to.Lts-numeral_to as numeral-to-lts
-use Rattle.text.proofs.put.Reads as put-reads
+use Rattle.text.proofs.byte_to.Reads as byte-to-reads
 use Rattle.text.proofs.+numeral_to.{statement}
 use Rattle.text.proofs.+numeral_to.Tie.{close}
 
@@ -25,8 +25,8 @@ numeral-to-below t =
 
 pub +numeral-to-spec : {M : Type 1} → statement M
 +numeral-to-spec = close μ-numeral-to λ t. numeral-to-lts.spec (
-  put-reads.Asked,
-  put-reads.Learnt,
+  byte-to-reads.Asked,
+  byte-to-reads.Learnt,
   numeral-to-below t,
   numeral-to.Post,
 )
@@ -37,11 +37,11 @@ pub +numeral-to-spec : {M : Type 1} → statement M
     (λ c. search needs)
     (λ c κs. search needs)
     (λ c. search needs)
-    (λ c. numeral-digit _ _ _ _ (c .before .before .before .before .before .if1 .left) (c .before .before .before .before .if2 .taken) (c .before .before .put .ensures))
+    (λ c. numeral-digit _ _ _ _ (c .before .before .before .before .before .if1 .left) (c .before .before .before .before .if2 .taken) (c .before .before .byte-to .ensures))
     (λ c. search needs)
     (λ c κs. search needs)
     (λ c. search needs)
     (λ c. search needs)
     (λ c κs. search needs)
     (λ c. search needs)
-    (λ c. numeral-more _ _ _ _ _ _ _ _ (c .before .before .before .before .before .before .before .before .before .if1 .left) (c .before .before .before .before .before .before .before .before .if2 .left) (c .before .before .before .before .before .before .numeral-to .ensures) (c .before .before .put2 .ensures))
+    (λ c. numeral-more _ _ _ _ _ _ _ _ (c .before .before .before .before .before .before .before .before .before .if1 .left) (c .before .before .before .before .before .before .before .before .if2 .left) (c .before .before .before .before .before .before .numeral-to .ensures) (c .before .before .byte-to2 .ensures))

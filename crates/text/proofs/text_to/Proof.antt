@@ -27,6 +27,6 @@ text-to-spec =
     (λ c κs. search needs)
     (λ c. search needs)
     (λ c. search needs)
-    (λ c. (c .before .before .put .kept .0 ∙ c .before .before .before .before .before .before .loop .inv .0, λ q new p. c .before .before .before .before .before .before .loop .inv .1 q new (text-step _ _ (c .before .before .before .before .before .loop-test .taken) _ q _ new (c .before .before .put .ensures) p)))
+    (λ c. (c .before .before .byte-to .kept .0 ∙ c .before .before .before .before .before .before .loop .inv .0, λ q new p. c .before .before .before .before .before .before .loop .inv .1 q new (text-step _ _ (c .before .before .before .before .before .loop-test .taken) _ q _ new (c .before .before .byte-to .ensures) p)))
     (λ c. c .before .loop .inv .0)
     (λ c. c .before .loop .inv .1 _ _ (text-end _ _ (c .loop-test .left) _ _)))

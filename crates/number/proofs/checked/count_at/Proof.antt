@@ -14,4 +14,4 @@ count-at-spec =
     (λ c. count-high _ _ (c .before .before .before .before .before .checked-at .ensures) _ _ (c .before .before .before .value .given .1) (c .before .if1 .left) (c .if2 .taken))
     (λ c. search needs)
     (λ c. count-in _ _ (c .before .before .before .before .before .checked-at .ensures) _ _ (c .before .before .before .value .given .1) (c .before .if1 .left) (c .if2 .left))
-    (λ c. count-bad _ _ (c .before .before .before .checked-at .ensures) _ _ (c .before .code .given .1)))
+    (λ c. count-bad _ _ (c .before .before .before .checked-at .ensures) _ _ (c .before .refusal .given .1)))

@@ -5,13 +5,13 @@ use mathlib.Core.Path.{_≡_, refl, _∙_}
 use mathlib.Core.Bool.{_&&_}
 use mathlib.Core.Logic.{⊎-elim}
 use lib.ListN.{length, drop}
-use Rattle.grammar.specs.Writer.{same}
+use Rattle.grammar.specs.Writer.{sameNumbers}
 use Rattle.reader.proofs.Tables.{same-lengths, same-differ, same-step, same-end}
 use Rattle.reader.proofs.table.same_numbers.Statement.{statement}
 use Rattle.reader.proofs.table.same_numbers.Tie as tie
 
 abbrev Inv-loop : tie.InvT-loop
-Inv-loop a b equal₀ i₀ equal i = (length a ≡ length b) × (i ≤ length a) × ((equal && same (drop i a) (drop i b)) ≡ same a b)
+Inv-loop a b equal₀ i₀ equal i = (length a ≡ length b) × (i ≤ length a) × ((equal && sameNumbers (drop i a) (drop i b)) ≡ sameNumbers a b)
 
 abbrev μ-loop : tie.MeasureT-loop
 μ-loop a b equal₀ i₀ equal i = length a - i

@@ -5,10 +5,10 @@ use Rattle.timed.proofs.jobs.ask_all.Statement.{statement}
 use Rattle.timed.proofs.jobs.ask_all.Tie as tie
 
 abbrev Inv-loop : tie.InvT-loop
-Inv-loop g sets sum₀ i₀ sum i = i ≤ 512
+Inv-loop g sets rows sum₀ i₀ sum i = i ≤ 512
 
 abbrev μ-loop : tie.MeasureT-loop
-μ-loop g sets sum₀ i₀ sum i = 512 - i
+μ-loop g sets rows sum₀ i₀ sum i = 512 - i
 
 pub ask-all-spec : {M : Type 1} → statement M
 ask-all-spec =
@@ -16,6 +16,7 @@ ask-all-spec =
     (tie.spec
     Inv-loop
     μ-loop
+    (λ c. search needs)
     (λ c. search needs)
     (λ c. search needs)
     (λ c κs. search needs)

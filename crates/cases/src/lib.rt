@@ -1,0 +1,19 @@
+// What the programs that run cases share: printing, cases as rows of text, the bench's row counts and what lent memory is filled with.
+use number::token::Counts;
+
+pub mod print;
+pub mod rows;
+
+// What lent memory holds before a call.
+pub const KEPT: u8 = 0xA5;
+
+pub const UNTOUCHED: u32 = 0xA5A5A5A5;
+
+// Document 01's row counts on the bench.
+pub fn bench() -> Counts {
+    Counts {
+        defs: 0,
+        refs: 18,
+        specs: 1,
+    }
+}

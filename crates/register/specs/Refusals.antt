@@ -1,0 +1,11 @@
+-- Document 01, "Numbers on the panel", and document 02: the numbers by which the register refuses.
+use Prim.Native.Nat.{ℕ}
+use mathlib.Core.List.{List, [], _∷_}
+
+-- "Opening a register: 13, 19", then 27
+abbrev pub openRefusals : List ℕ
+openRefusals = 13 ∷ 19 ∷ 27 ∷ []
+
+-- "Filing, asking and acknowledging first answer 19", then 27, 16
+abbrev pub callRefusals : List ℕ
+callRefusals = 19 ∷ 27 ∷ 16 ∷ []
