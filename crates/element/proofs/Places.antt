@@ -2,14 +2,15 @@
 -- Assumes nothing.
 use Prim.Native.Nat.{ℕ, _≤_, _<_}
 use mathlib.Core.Path.{_≡_, refl, sym, _∙_}
-use mathlib.Core.Bool.{Bool, true, false, cond}
+use mathlib.Core.Bool.{Bool, true, false, cond, _&&_, _||_}
 use mathlib.Core.List.{List, [], _∷_}
+use mathlib.Core.Logic.{⊎-elim}
 use Rattle.element.specs.declared.Place.{Place}
 use Rattle.element.specs.declared.Place.the-variants as Place
 use Rattle.element.specs.declared.Form.{Form}
-use Rattle.element.specs.declared.Form.the-variants.{Refused, Leaf, Named, Variable, Wrap, Modified, Counted, Array, Instance, Callable, Generic}
-use Rattle.element.specs.Element.{allowed, bare, leads, entries, formOf, places, isTypePlace}
-use Rattle.element.proofs.Runs.{uncut, same-run, allForms, lookup-passes}
+use Rattle.element.specs.declared.Form.the-variants.{Refused, Callable}
+use Rattle.element.specs.Element.{bySort, nowhere, allowed, lookup, bare, leads, entries, formOf, places, isTypePlace}
+use Rattle.element.proofs.Runs.{uncut, same-run, allForms, lookup-passes, one-form, refused-form, unmet}
 
 -- a value for each place
 abbrev pub each : {A : Type 0} → (Place → A) → List Place → List A
@@ -65,33 +66,29 @@ module _ (p : Place) (t : isTypePlace p ≡ true) where
 
 -- ---- forms by place
 
+-- what follows a lead byte, and what is none
+pub led : (b : ℕ) → allowed (lookup leads b) ≡ true → Callable Place.Param ≡ lookup leads b
+unfolding leads
+led b e = ⊎-elim sym (λ h. unmet allowed h refl e) (one-form (Callable Place.Param) leads b (refl, (refl, (refl, (refl, (refl, (refl, tt)))))))
+
+pub unled : (b : ℕ) → allowed (lookup leads b) ≡ false → Refused ≡ lookup leads b
+unled b e = sym (refused-form (lookup leads b) e)
+
+-- the place of FNPTR's method: the one that has lead bytes and no generic ones
+abbrev pub isFnPtrMethod : Place → Bool
+isFnPtrMethod p = allowed (formOf p 0x00) && cond (allowed (formOf p 0x10)) false true
+
+pub fn-ptr-method : (p : Place) → isFnPtrMethod p ≡ true → p ≡ Place.FnPtrMethod
+unfolding formOf entries bare leads places
+fn-ptr-method p e = sym (rw e at (at-place (λ q. cond (isFnPtrMethod q) Place.FnPtrMethod q) (λ q. q) refl p))
+
 -- a form that a place of a type may have; its children stand in places of a type, but for FNPTR's
 abbrev pub typeForm : Form → Bool
-typeForm Refused = true
-typeForm Leaf = true
-typeForm Named = true
-typeForm Variable = true
-typeForm (Wrap p) = true
-typeForm (Modified p) = isTypePlace p
-typeForm (Counted p) = false
-typeForm Array = true
-typeForm Instance = true
-typeForm (Callable p) = false
-typeForm (Generic p) = false
+typeForm f = bySort true true (λ p. isTypePlace p || isFnPtrMethod p) isTypePlace nowhere nowhere nowhere f
 
 -- a form that any other place may have, which is that of a signature; its children stand in places of a type
 abbrev pub signatureForm : Form → Bool
-signatureForm Refused = true
-signatureForm Leaf = false
-signatureForm Named = false
-signatureForm Variable = false
-signatureForm (Wrap p) = isTypePlace p
-signatureForm (Modified p) = false
-signatureForm (Counted p) = isTypePlace p
-signatureForm Array = false
-signatureForm Instance = false
-signatureForm (Callable p) = isTypePlace p
-signatureForm (Generic p) = isTypePlace p
+signatureForm f = bySort true false isTypePlace nowhere isTypePlace isTypePlace isTypePlace f
 
 -- the forms of the entries of a place are those of a type or of a signature
 fits : Place → Bool

@@ -1,14 +1,17 @@
 -- Tables of runs of bytes: a byte in a run and out of it, and an interval of bytes that no run cuts.
 -- Assumes nothing.
 use Prim.Native.Nat.{ℕ, suc, _≤_, _<_}
-use mathlib.Core.Path.{_≡_, refl}
+use mathlib.Core.Path.{_≡_, refl, subst}
 use mathlib.Core.Bool.{Bool, true, false, cond, _&&_, _||_}
 use mathlib.Core.List.{List, [], _∷_}
 use mathlib.Core.Logic.{_⊎_, inl, inr, ⊎-elim}
 use native.Mathlib.Nat.{eq-or-lt-of-le}
 use native.Mathlib.Omega.{arith}
 use lib.Dec.{T, leb, ltb, leb→le, ltb→lt}
+use denote.Enum.Declared.{tagOf}
+use types.Run.{OneOf, miss}
 use borrow.Author.Tests.{leb-true, le-leb, ltb-true, ltb-false}
+use Rattle.element.proofs.Form.{the-type}
 use Rattle.element.specs.declared.Form.{Form}
 use Rattle.element.specs.declared.Form.the-variants.{Refused, Leaf, Named, Variable, Wrap, Modified, Counted, Array, Instance, Callable, Generic}
 use Rattle.element.specs.Element.{Entry, run, allowed, within, lookup}
@@ -99,6 +102,31 @@ refused-form Instance e = cc
 refused-form (Callable p) e = cc
 refused-form (Generic p) e = cc
 
+-- the tags of all others
+abbrev others : List ℕ
+others = 1 ∷ 2 ∷ 3 ∷ 4 ∷ 5 ∷ 6 ∷ 7 ∷ 8 ∷ 9 ∷ 10 ∷ []
+
+pub unrefused : (f : Form) → OneOf others (tagOf the-type f) → allowed f ≡ true
+unrefused f h = go (allowed f) refl
+  where
+    go : (t : Bool) → allowed f ≡ t → t ≡ true
+    go true e = refl
+    go false e = absurd (miss others 0 tt (subst (λ (g : Form). OneOf others (tagOf the-type g)) (refused-form f e) h))
+
 -- what fails a test is nothing that passes it
 pub unmet : {A X : Type 0} (test : A → Bool) {x y : A} → x ≡ y → test y ≡ false → test x ≡ true → X
 unmet test e f t = let z : _≡_ {A = ℕ} 0 1 = cc in absurd (omega arith)
+
+-- a table whose entries all have one form
+abbrev pub AllAre : Form → List Entry → Type 0
+AllAre f [] = Unit {0}
+AllAre f (run first last g ∷ es) = (g ≡ f) × AllAre f es
+
+-- gives that form to each byte, or refuses it
+pub one-form : (f : Form) (es : List Entry) (b : ℕ) → AllAre f es → (lookup es b ≡ f) ⊎ (lookup es b ≡ Refused)
+one-form f [] b h = inr refl
+one-form f (run first last g ∷ es) b h = go (within first last b) (one-form f es b (h .1))
+  where
+    go : (t : Bool) → (lookup es b ≡ f) ⊎ (lookup es b ≡ Refused) → (cond t g (lookup es b) ≡ f) ⊎ (cond t g (lookup es b) ≡ Refused)
+    go true x = inl (h .0)
+    go false x = x

@@ -8,18 +8,29 @@ use Rattle.element.specs.declared.Place.the-variants as Place
 use Rattle.element.specs.declared.Form.{Form}
 use Rattle.element.specs.declared.Form.the-variants.{Refused, Leaf, Named, Variable, Wrap, Modified, Counted, Array, Instance, Callable, Generic}
 
+-- A value for each sort of form: refused; of a type, with no place; one child; a modifier; counted types; a method, without and with a generic count.
+abbrev pub bySort : {A : Type 0} → (refused plain : A) → (wrap modified counted callable generic : Place → A) → Form → A
+bySort r a w m c k g Refused = r
+bySort r a w m c k g Leaf = a
+bySort r a w m c k g Named = a
+bySort r a w m c k g Variable = a
+bySort r a w m c k g (Wrap p) = w p
+bySort r a w m c k g (Modified p) = m p
+bySort r a w m c k g (Counted p) = c p
+bySort r a w m c k g Array = a
+bySort r a w m c k g Instance = a
+bySort r a w m c k g (Callable p) = k p
+bySort r a w m c k g (Generic p) = g p
+
+abbrev pub anywhere : Place → Bool
+anywhere p = true
+
+abbrev pub nowhere : Place → Bool
+nowhere p = false
+
+-- every form but Refused
 abbrev pub allowed : Form → Bool
-allowed Refused = false
-allowed Leaf = true
-allowed Named = true
-allowed Variable = true
-allowed (Wrap p) = true
-allowed (Modified p) = true
-allowed (Counted p) = true
-allowed Array = true
-allowed Instance = true
-allowed (Callable p) = true
-allowed (Generic p) = true
+allowed f = bySort false true anywhere anywhere anywhere anywhere anywhere f
 
 -- the bytes from the first to the last, and their form
 pub data Entry : Type 0 where

@@ -70,19 +70,29 @@ fn bare_form(b: u8) -> Form
     }
 }
 
-// The lead bytes of a method under FNPTR.
-fn lead_form(b: u8) -> Form
-    ensures { λ r. ⌜ r ≡ lookup leads b ⌝ }
+// Whether a byte leads a method under FNPTR.
+pub fn is_lead(b: u8) -> bool
+    ensures { λ r. ⌜ r ≡ allowed (lookup leads b) ⌝ }
 {
     match b {
-        0x00 => Form::Callable(Place::Param),
-        0x05 => Form::Callable(Place::Param),
-        0x20 => Form::Callable(Place::Param),
-        0x25 => Form::Callable(Place::Param),
-        0x60 => Form::Callable(Place::Param),
-        0x65 => Form::Callable(Place::Param),
-        _ => Form::Refused,
+        0x00 => true,
+        0x05 => true,
+        0x20 => true,
+        0x25 => true,
+        0x60 => true,
+        0x65 => true,
+        _ => false,
     }
+}
+
+// The form of the lead bytes.
+fn fn_ptr_method_form(b: u8) -> Form
+    ensures { λ r. ⌜ r ≡ lookup leads b ⌝ }
+{
+    if is_lead(b) {
+        return Form::Callable(Place::Param);
+    }
+    Form::Refused
 }
 
 fn type_form(b: u8) -> Form
@@ -207,7 +217,7 @@ fn method_def_sig_form(b: u8) -> Form
         0x10 => Form::Generic(Place::Param),
         0x30 => Form::Generic(Place::Param),
         0x70 => Form::Generic(Place::Param),
-        _ => lead_form(b),
+        _ => fn_ptr_method_form(b),
     }
 }
 
@@ -224,11 +234,24 @@ pub fn form_of(place: Place, b: u8) -> Form
         Place::Pinned => pinned_form(b),
         Place::TypeSpec => type_spec_form(b),
         Place::ModifiedSpec => modified_spec_form(b),
-        Place::FnPtrMethod => lead_form(b),
+        Place::FnPtrMethod => fn_ptr_method_form(b),
         Place::FieldSig => field_sig_form(b),
         Place::LocalVarSig => local_var_sig_form(b),
         Place::PropertySig => property_sig_form(b),
         Place::MethodDefSig => method_def_sig_form(b),
+    }
+}
+
+// The same, quick for the roots that are no types.
+pub fn signature_form_of(place: Place, b: u8) -> Form
+    ensures { λ r. ⌜ r ≡ formOf place b ⌝ }
+{
+    match place {
+        Place::FieldSig => field_sig_form(b),
+        Place::LocalVarSig => local_var_sig_form(b),
+        Place::PropertySig => property_sig_form(b),
+        Place::MethodDefSig => method_def_sig_form(b),
+        _ => form_of(place, b),
     }
 }
 
@@ -238,15 +261,6 @@ pub fn allows(place: Place, b: u8) -> bool
 {
     match form_of(place, b) {
         Form::Refused => false,
-        Form::Leaf => true,
-        Form::Named => true,
-        Form::Variable => true,
-        Form::Wrap(_) => true,
-        Form::Modified(_) => true,
-        Form::Counted(_) => true,
-        Form::Array => true,
-        Form::Instance => true,
-        Form::Callable(_) => true,
-        Form::Generic(_) => true,
+        _ => true,
     }
 }

@@ -17,7 +17,7 @@ use Rattle.number.specs.Token.{tagOf, rowOf, rowsOf, typeTags, modTags, tokenOf
 use Rattle.number.specs.declared.checked.Checked.{Checked}
 use Rattle.number.specs.declared.checked.Checked.the-variants.{Good, Bad}
 use Rattle.number.specs.declared.token.Counts.{Counts}
-use Rattle.element.specs.Element.{allowed, within, entries, bare, leads, formOf, places}
+use Rattle.element.specs.Element.{bySort, anywhere, nowhere, allowed, within, entries, bare, leads, formOf, places}
 use Rattle.element.specs.declared.Place.{Place}
 use Rattle.element.specs.declared.Place.the-variants as Place
 use Rattle.element.specs.declared.Form.{Form}
@@ -36,17 +36,7 @@ use Rattle.filing.specs.Outcome.{judged, isModifier, isModifierOf, has, 
 -- ---- a modifier's kind is a modifier's
 
 modifies : Form → Bool
-modifies Refused = false
-modifies Leaf = false
-modifies Named = false
-modifies Variable = false
-modifies (Wrap p) = false
-modifies (Modified p) = true
-modifies (Counted p) = false
-modifies Array = false
-modifies Instance = false
-modifies (Callable p) = false
-modifies (Generic p) = false
+modifies f = bySort false false nowhere anywhere nowhere nowhere nowhere f
 
 -- a kind is the byte, or one that no byte has
 kind-is : (p : Place) (b : ℕ) → kindOf p b ≡ cond (eqb (kindOf p 0) 0) b (kindOf p 0)

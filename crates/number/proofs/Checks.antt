@@ -53,7 +53,21 @@ pub count-most : (low high : ℕ) (s : List ℕ) (at v next : ℕ) (y : Checked)
 unfolding countAt
 count-most low high s at v next y e g = count-good low high v next (checkedAt s at) (sym e ∙ g) .2
 
--- ---- the eliminator. y is what a call gave, and its contract says that it is x
+-- ---- the eliminator
+
+-- a function of what it gives, way by way
+pub checked-through : {A B : Type 0} (f : A → B) (c : Checked) {good : ℕ → ℕ → A} {bad : ℕ → A} {good′ : ℕ → ℕ → B} {bad′ : ℕ → B}
+    → ((v next : ℕ) → good′ v next ≡ f (good v next)) → ((refusal : ℕ) → bad′ refusal ≡ f (bad refusal)) → onChecked c good′ bad′ ≡ f (onChecked c good bad)
+checked-through f (Good v next) g b = g v next
+checked-through f (Bad refusal) g b = b refusal
+
+-- a test that both ways pass
+pub checked-test : {A : Type 0} (test : A → Bool) (c : Checked) (good : ℕ → ℕ → A) (bad : ℕ → A) → ((v next : ℕ) → test (good v next) ≡ true) → ((refusal : ℕ) → test (bad refusal) ≡ true)
+    → test (onChecked c good bad) ≡ true
+checked-test test (Good v next) good bad f g = f v next
+checked-test test (Bad refusal) good bad f g = g refusal
+
+-- y is what a call gave, and its contract says that it is x
 
 module _ {A : Type 0} {y x : Checked} (e : y ≡ x) (good : ℕ → ℕ → A) (bad : ℕ → A) where
   pub on-bad : {c : ℕ} → y ≡ Bad c → bad c ≡ onChecked x good bad

@@ -2,66 +2,67 @@
 -- Assumes nothing.
 use Prim.Native.Nat.{ℕ, _+_, _≤_, _<_}
 use native.Mathlib.Omega.{arith}
-use mathlib.Core.Path.{_≡_}
-use mathlib.Core.Bool.{cond}
+use mathlib.Core.Path.{_≡_, refl}
+use mathlib.Core.Bool.{true, false}
 use mathlib.Core.List.{List}
 use lib.ListN.{length, getD}
 use borrow.Author.Tests.{lt-ltb, le-ltb}
 use Rattle.number.specs.declared.token.Counts.{Counts}
-use Rattle.element.specs.Element.{allowed, formOf}
+use Rattle.element.specs.Element.{allowed, leads, entries, lookup, formOf}
 use Rattle.element.specs.declared.Place.{Place}
+use Rattle.element.specs.declared.Place.the-variants as Place
 use Rattle.element.specs.declared.Form.{Form}
+use Rattle.element.specs.declared.Form.the-variants.{Refused, Callable}
 use Rattle.element.proofs.Runs.{inside, outside, refused-form}
-use Rattle.grammar.specs.Limits.{maxNodes}
-use Rattle.grammar.specs.Table.{kindOf}
+use Rattle.element.proofs.Places.{led, unled}
+use Rattle.grammar.specs.Table.{METHOD, kindOf}
+use Rattle.opening.specs.Code.{codeAt}
+use Rattle.opening.specs.declared.Code.{Code}
+use Rattle.opening.specs.declared.Code.the-variants as Code
 use Rattle.opening.specs.Open.{instanceOf, instanceAt, headAt, openAt}
-use Rattle.opening.specs.Lead.{leadForm, leadAt}
+use Rattle.opening.specs.Lead.{callAt, leadForm, leadAt}
 use Rattle.opening.specs.declared.types.Open.{Open}
 use Rattle.opening.specs.declared.types.Open.the-variants as Open
 use Rattle.opening.specs.declared.signatures.Begun.{Begun}
 use Rattle.opening.specs.declared.signatures.Begun.the-variants as Begun
-use Rattle.opening.proofs.Codes.{coded-none, coded-deep, coded-full, coded-some}
+use Rattle.opening.proofs.Codes.{code-is, coded-shut, coded-some}
 
--- ---- open_at and lead_at
+-- ---- open_at, lead_at and fn_ptr_lead_at. y is what `code_at` gave
 
-module _ (d : ℕ) (s : List ℕ) (p : Place) (at n : ℕ) where
-  module _ (h : length s ≤ at) where
-    pub open-none : (counts : Counts) → Open.Shut 2 at ≡ openAt d counts s p at n
-    unfolding openAt
-    open-none counts = coded-none d s p at n Open.Shut _ h
+module _ (d : ℕ) (s : List ℕ) (p : Place) (at n : ℕ) (y : Code) (e : y ≡ codeAt d s p at n) where
+  pub open-shut : (counts : Counts) (r : ℕ) → y ≡ Code.Shut r → Open.Shut r at ≡ openAt d counts s p at n
+  unfolding openAt
+  open-shut counts r g = coded-shut d s p at n Open.Shut _ y e r g
 
-    pub lead-none : Begun.Shut 2 at ≡ leadAt d s p at n
-    unfolding leadAt
-    lead-none = coded-none d s p at n Begun.Shut _ h
+  pub lead-shut : (r : ℕ) → y ≡ Code.Shut r → Begun.Shut r at ≡ leadAt d s p at n
+  unfolding leadAt
+  lead-shut r g = coded-shut d s p at n Begun.Shut _ y e r g
 
-  -- no room for the node: y is what `crowded` gave
-  module _ (h : at < length s) (y : ℕ) (z : d ≡ 0) (e : y ≡ cond (allowed (formOf p (getD s at 0))) 6 5) where
-    pub open-deep : (counts : Counts) → Open.Shut y at ≡ openAt d counts s p at n
-    unfolding openAt
-    open-deep counts = coded-deep d s p at n Open.Shut _ h y z e
+  -- where there is a byte and room for its node
+  here : (b : ℕ) → y ≡ Code.Byte b → (at < length s) × (b ≡ getD s at 0)
+  here b g = code-is d s p at n Begun.Shut (Begun.Shut 0 0) y e b g
 
-    pub lead-deep : Begun.Shut y at ≡ leadAt d s p at n
-    unfolding leadAt
-    lead-deep = coded-deep d s p at n Begun.Shut _ h y z e
+  pub byte-at : (b : ℕ) → y ≡ Code.Byte b → at < length s
+  byte-at b g = here b g .0
 
-  module _ (h : at < length s) (y : ℕ) (z : d ≡ 0 → ⊥) (m : maxNodes ≤ n) (e : y ≡ cond (allowed (formOf p (getD s at 0))) 10 5) where
-    pub open-full : (counts : Counts) → Open.Shut y at ≡ openAt d counts s p at n
-    unfolding openAt
-    open-full counts = coded-full d s p at n Open.Shut _ h y z m e
+  module _ (b : ℕ) (g : y ≡ Code.Byte b) (f : Form) (i : f ≡ formOf p b) where
+    pub open-some : (counts : Counts) (o : Open) → o ≡ headAt f counts s b at → o ≡ openAt d counts s p at n
+    unfolding openAt headAt
+    open-some counts o q = coded-some d s p at n Open.Shut _ y e b g o (rw (← here b g .1, ← i) q) (λ a. rw (refused-form (formOf p (getD s at 0)) a))
 
-    pub lead-full : Begun.Shut y at ≡ leadAt d s p at n
-    unfolding leadAt
-    lead-full = coded-full d s p at n Begun.Shut _ h y z m e
+    pub lead-some : (k : ℕ) (o : Begun) → k ≡ kindOf p b → o ≡ leadForm f s k b at → o ≡ leadAt d s p at n
+    unfolding leadAt leadForm
+    lead-some k o h q = coded-some d s p at n Begun.Shut _ y e b g o (rw (← here b g .1, ← i, ← h) q) (λ a. rw (refused-form (formOf p (getD s at 0)) a))
 
--- where there is a byte and room for its node
-module _ (d : ℕ) (s : List ℕ) (p : Place) (at n : ℕ) (h : at < length s) (z : d ≡ 0 → ⊥) (m : n < maxNodes) (f : Form) (e : f ≡ formOf p (getD s at 0)) where
-  pub open-some : (counts : Counts) (o : Open) → o ≡ headAt f counts s (getD s at 0) at → o ≡ openAt d counts s p at n
-  unfolding openAt headAt
-  open-some counts o q = coded-some d s p at n Open.Shut _ h o z m (rw (← e) q) (λ a. rw (refused-form (formOf p (getD s at 0)) a))
+-- the method below a FNPTR
+module _ (d : ℕ) (s : List ℕ) (at n : ℕ) (y : Code) (e : y ≡ codeAt d s Place.FnPtrMethod at n) (b : ℕ) (g : y ≡ Code.Byte b) where
+  pub fn-ptr-lead-some : allowed (lookup leads b) ≡ true → (o : Begun) → o ≡ callAt s Place.Param METHOD 0 b (at + 1) → o ≡ leadAt d s Place.FnPtrMethod at n
+  unfolding leadForm formOf entries
+  fn-ptr-lead-some t o q = lead-some d s Place.FnPtrMethod at n y e b g (Callable Place.Param) (led b t) METHOD o refl q
 
-  pub lead-some : (k : ℕ) (o : Begun) → k ≡ kindOf p (getD s at 0) → o ≡ leadForm f s k (getD s at 0) at → o ≡ leadAt d s p at n
-  unfolding leadAt leadForm
-  lead-some k o g q = coded-some d s p at n Begun.Shut _ h o z m (rw (← e, ← g) q) (λ a. rw (refused-form (formOf p (getD s at 0)) a))
+  pub fn-ptr-lead-none : allowed (lookup leads b) ≡ false → Begun.Shut 5 at ≡ leadAt d s Place.FnPtrMethod at n
+  unfolding leadForm formOf entries
+  fn-ptr-lead-none t = lead-some d s Place.FnPtrMethod at n y e b g Refused (unled b t) METHOD (Begun.Shut 5 at) refl refl
 
 -- ---- instance_at
 

@@ -4,17 +4,17 @@ use Prim.Native.Nat.{ℕ, zero, suc, _+_, _-_, _≤_, _<_}
 use native.Mathlib.Omega.{arith}
 use native.Mathlib.Numerals.{add-one}
 use mathlib.Core.Path.{_≡_, refl, sym, ap, _∙_}
-use mathlib.Core.Bool.{Bool, true, false, cond, _&&_}
+use mathlib.Core.Bool.{Bool, true, false, cond, _&&_, _||_}
 use mathlib.Core.List.{List, [], _∷_, _++_, append-nil}
 use lib.ListN.{length, getD}
-use lib.Dec.{ltb, leb}
-use borrow.Author.Tests.{leb-true}
+use lib.Dec.{ltb, leb, eqb}
+use borrow.Author.Tests.{leb-true, eqb-true}
 use Rattle.number.specs.Number.{maxNumber}
-use Rattle.number.specs.Checked.{checkedAt, onChecked, countAt}
+use Rattle.number.specs.Checked.{checkedAt, countAt}
 use Rattle.number.specs.Token.{typeTags, modTags, tokenAt}
 use Rattle.number.specs.declared.checked.Checked.{Checked}
-use Rattle.number.specs.declared.checked.Checked.the-variants.{Good, Bad}
 use Rattle.number.specs.declared.token.Counts.{Counts}
+use Rattle.number.proofs.Checks.{checked-through, checked-test}
 use Rattle.element.specs.Element.{allowed, within, bare, leads, entries, formOf, places, isTypePlace}
 use Rattle.element.specs.declared.Place.{Place}
 use Rattle.element.specs.declared.Place.the-variants as Place
@@ -23,11 +23,11 @@ use Rattle.element.specs.declared.Form.the-variants.{Refused, Leaf, Named, Vari
 use Rattle.grammar.specs.Limits.{maxNodes}
 use Rattle.grammar.specs.Table.{entry, kindOf}
 use Rattle.grammar.specs.Judge.{Out, fault, done, bind, check, numbered, many, Reader, callable, body, opened, node}
-use Rattle.element.proofs.Places.{at-type, typeForm, signatureForm, type-form, signature-form}
+use Rattle.element.proofs.Places.{at-type, isFnPtrMethod, fn-ptr-method, typeForm, signatureForm, type-form, signature-form}
 use Rattle.grammar.proofs.Sound.{both-left, both-right}
 use Rattle.grammar.proofs.Complete.{both}
 use Rattle.opening.specs.Code.{coded}
-use Rattle.opening.specs.Open.{headOf, opening, wrappedOf, instanceOf, instanceAt, headAt, openAt}
+use Rattle.opening.specs.Open.{headOf, opening, wrappedOf, listedOf, instanceOf, instanceAt, headAt, openAt}
 use Rattle.opening.specs.Lead.{leading, countedOf, callAt, genericAt, leadForm, leadAt}
 use Rattle.opening.specs.Means.{recordOf, sealed, andThen, series, signatureOf, onLead, onOpen}
 use Rattle.opening.specs.declared.Head.{Head}
@@ -114,24 +114,30 @@ module _ (read : Reader) (d : ℕ) (s : List ℕ) (counts : Counts) (at n : ℕ)
 
   number-open : (o : Checked) (from : ℕ) (k : ℕ → ℕ → Out) (h : ℕ → ℕ → Open) → ((v next : ℕ) → k v next ≡ on (h v next)) → numbered o from k ≡ on (opening o from h)
   unfolding onOpen
-  number-open (Good v next) from k h f = f v next
-  number-open (Bad refusal) from k h f = refl
+  number-open o from k h f = checked-through on o f (λ refusal. refl)
 
   check-open : (t : Bool) (refusal q : ℕ) (k : Unit {0} → Out) (x : Open) → k tt ≡ on x → check t refusal q k ≡ on (cond t x (Open.Shut refusal q))
   unfolding onOpen
   check-open true refusal q k x e = e
   check-open false refusal q k x e = refl
 
-  one-open : (h : Head) (p : Place) (from : ℕ) → bind (read counts p from (n + 1)) (λ e m rs. done e m (recordOf h at m ∷ rs)) ≡ sealed (many (read counts p) 1 from (n + 1)) h at
-  one-open h p from = bind-sealed (read counts p from (n + 1)) h at ∙ ap (λ (o : Out). sealed o h at) (sym (many-one (read counts p) from (n + 1)))
-
-  wrap-open : (b : ℕ) (p : Place) (from : ℕ) → bind (read counts p from (n + 1)) (λ e m rs. done e m (entry b 0 0 1 at m ∷ rs)) ≡ on (wrappedOf b p from)
+  wrap-open : (b : ℕ) (p : Place) (from : ℕ) → isTypePlace p || isFnPtrMethod p ≡ true → bind (read counts p from (n + 1)) (λ e m rs. done e m (entry b 0 0 1 at m ∷ rs)) ≡ on (wrappedOf b p from)
   unfolding onOpen wrappedOf
-  wrap-open b p from = go (isTypePlace p)
+  wrap-open b p from t = bind-sealed (read counts p from (n + 1)) (headOf b 0 0 1) at ∙ go (isTypePlace p) t
     where
-      go : (t : Bool) → bind (read counts p from (n + 1)) (λ e m rs. done e m (entry b 0 0 1 at m ∷ rs)) ≡ on (cond t (Open.All (headOf b 0 0 1) p from) (Open.Signature (headOf b 0 0 1) p from))
-      go true = one-open (headOf b 0 0 1) p from
-      go false = bind-sealed (read counts p from (n + 1)) (headOf b 0 0 1) at
+      go : (u : Bool) → u || isFnPtrMethod p ≡ true → sealed (read counts p from (n + 1)) (headOf b 0 0 1) at ≡ on (cond u (Open.One (headOf b 0 0 1) p from) (Open.FnPtr (headOf b 0 0 1) from))
+      go true e = refl
+      go false e = ap (λ (q : Place). sealed (read counts q from (n + 1)) (headOf b 0 0 1) at) (fn-ptr-method p e)
+
+  list-open : (h : Head) (next : ℕ) → bind (many (read counts Place.Type) (h .children) next (n + 1)) (λ e m rs. done e m (recordOf h at m ∷ rs)) ≡ on (listedOf h next)
+  unfolding onOpen listedOf
+  list-open h next = bind-sealed (many (read counts Place.Type) (h .children) next (n + 1)) h at ∙ go (eqb (h .children) 1) (λ e. eqb-true (h .children) 1 e)
+    where
+      go : (t : Bool) → (t ≡ true → h .children ≡ 1) → sealed (many (read counts Place.Type) (h .children) next (n + 1)) h at ≡ on (cond t (Open.One h Place.Type next) (Open.List h next))
+      go true f =
+          ap (λ (k : ℕ). sealed (many (read counts Place.Type) k next (n + 1)) h at) (f refl)
+          ∙ ap (λ (o : Out). sealed o h at) (many-one (read counts Place.Type) next (n + 1))
+      go false f = refl
 
   body-open : (b : ℕ) (f : Form) → typeForm f ≡ true → body read d s counts b b at n f ≡ on (headAt f counts s b at)
   unfolding body headAt onOpen sealed instanceAt instanceOf
@@ -139,8 +145,8 @@ module _ (read : Reader) (d : ℕ) (s : List ℕ) (counts : Counts) (at n : ℕ)
   body-open b Leaf t = refl
   body-open b Named t = number-open (tokenAt typeTags counts s (at + 1)) (at + 1) _ _ (λ v next. refl)
   body-open b Variable t = number-open (checkedAt s (at + 1)) (at + 1) _ _ (λ v next. refl)
-  body-open b (Wrap p) t = wrap-open b p (at + 1)
-  body-open b (Modified p) t = number-open (tokenAt modTags counts s (at + 1)) (at + 1) _ _ (λ v next. one-open (headOf b v 0 1) p next)
+  body-open b (Wrap p) t = wrap-open b p (at + 1) t
+  body-open b (Modified p) t = number-open (tokenAt modTags counts s (at + 1)) (at + 1) _ _ (λ v next. bind-sealed (read counts p next (n + 1)) (headOf b v 0 1) at)
   body-open b (Counted p) t = cc
   body-open b Array t = refl
   body-open b Instance t =
@@ -148,7 +154,7 @@ module _ (read : Reader) (d : ℕ) (s : List ℕ) (counts : Counts) (at n : ℕ)
       (check-open (within 0x11 0x12 (getD s (at + 1) 0)) 5 (at + 1) _ _
       (number-open (tokenAt typeTags counts s (at + 2)) (at + 2) _ _
       (λ v at₁. number-open (countAt 1 maxNumber s at₁) at₁ _ _
-      (λ c next. bind-sealed (many (read counts Place.Type) c next (n + 1)) (headOf b v (getD s (at + 1) 0) c) at))))
+      (λ c next. list-open (headOf b v (getD s (at + 1) 0) c) next))))
   body-open b (Callable p) t = cc
   body-open b (Generic p) t = cc
 
@@ -165,8 +171,7 @@ module _ (read : Reader) (d : ℕ) (s : List ℕ) (counts : Counts) (at n : ℕ)
 
   number-lead : (o : Checked) (from : ℕ) (k : ℕ → ℕ → Out) (h : ℕ → ℕ → Begun) → ((v next : ℕ) → k v next ≡ onL (h v next)) → numbered o from k ≡ onL (leading o from h)
   unfolding onLead
-  number-lead (Good v next) from k h f = f v next
-  number-lead (Bad refusal) from k h f = refl
+  number-lead o from k h f = checked-through onL o f (λ refusal. refl)
 
   call-lead : (p : Place) (kind a b from : ℕ) → callable read s counts p kind a b at n from ≡ onL (callAt s p kind a b from)
   unfolding callAt onLead signatureOf
@@ -215,41 +220,37 @@ module _ (s : List ℕ) (counts : Counts) (p : Place) (at n d : ℕ) where
 abbrev sorted : Open → Bool
 sorted (Open.Shut refusal q) = true
 sorted (Open.Leaf h next) = true
-sorted (Open.All h q next) = isTypePlace q
-sorted (Open.Signature h q next) = cond (isTypePlace q) false true
+sorted (Open.One h q next) = isTypePlace q
+sorted (Open.List h next) = true
+sorted (Open.FnPtr h next) = true
 sorted (Open.Array kind) = true
 
 abbrev sortedLead : Begun → Bool
 sortedLead (Begun.Shut refusal q) = true
 sortedLead (Begun.Go l) = isTypePlace (l .first) && isTypePlace (l .rest)
 
--- a number that goes on, and a test
-number-test : {A : Type 0} (test : A → Bool) (c : Checked) (k : ℕ → ℕ → A) (bad : ℕ → A) → ((v next : ℕ) → test (k v next) ≡ true) → ((r : ℕ) → test (bad r) ≡ true) → test (onChecked c k bad) ≡ true
-number-test test (Good v next) k bad f g = f v next
-number-test test (Bad refusal) k bad f g = g refusal
-
 cond-test : {A : Type 0} (test : A → Bool) (t : Bool) (x y : A) → test x ≡ true → test y ≡ true → test (cond t x y) ≡ true
 cond-test test true x y f g = f
 cond-test test false x y f g = g
 
 head-sorted : (f : Form) (counts : Counts) (s : List ℕ) (b at : ℕ) → typeForm f ≡ true → sorted (headAt f counts s b at) ≡ true
-unfolding headAt wrappedOf instanceAt instanceOf formOf entries bare leads
+unfolding headAt wrappedOf listedOf instanceAt instanceOf formOf entries bare leads
 head-sorted Refused counts s b at t = refl
 head-sorted Leaf counts s b at t = refl
-head-sorted Named counts s b at t = number-test sorted (tokenAt typeTags counts s (at + 1)) _ _ (λ v next. refl) (λ r. refl)
-head-sorted Variable counts s b at t = number-test sorted (checkedAt s (at + 1)) _ _ (λ v next. refl) (λ r. refl)
+head-sorted Named counts s b at t = checked-test sorted (tokenAt typeTags counts s (at + 1)) _ _ (λ v next. refl) (λ r. refl)
+head-sorted Variable counts s b at t = checked-test sorted (checkedAt s (at + 1)) _ _ (λ v next. refl) (λ r. refl)
 head-sorted (Wrap p) counts s b at t = go (isTypePlace p) refl
   where
-    go : (u : Bool) → isTypePlace p ≡ u → sorted (cond u (Open.All (headOf b 0 0 1) p (at + 1)) (Open.Signature (headOf b 0 0 1) p (at + 1))) ≡ true
+    go : (u : Bool) → isTypePlace p ≡ u → sorted (cond u (Open.One (headOf b 0 0 1) p (at + 1)) (Open.FnPtr (headOf b 0 0 1) (at + 1))) ≡ true
     go true e = e
-    go false e = rw e
-head-sorted (Modified p) counts s b at t = number-test sorted (tokenAt modTags counts s (at + 1)) _ _ (λ v next. t) (λ r. refl)
+    go false e = refl
+head-sorted (Modified p) counts s b at t = checked-test sorted (tokenAt modTags counts s (at + 1)) _ _ (λ v next. t) (λ r. refl)
 head-sorted (Counted p) counts s b at t = refl
 head-sorted Array counts s b at t = refl
 head-sorted Instance counts s b at t =
     cond-test sorted (ltb (at + 1) (length s)) _ _
     (cond-test sorted (within 0x11 0x12 (getD s (at + 1) 0)) _ _
-    (number-test sorted (tokenAt typeTags counts s (at + 2)) _ _ (λ v at₁. number-test sorted (countAt 1 maxNumber s at₁) _ _ (λ c next. refl) (λ r. refl)) (λ r. refl))
+    (checked-test sorted (tokenAt typeTags counts s (at + 2)) _ _ (λ v at₁. checked-test sorted (countAt 1 maxNumber s at₁) _ _ (λ c next. cond-test sorted (eqb c 1) _ _ refl refl) (λ r. refl)) (λ r. refl))
     refl)
     refl
 head-sorted (Callable p) counts s b at t = refl
@@ -257,7 +258,7 @@ head-sorted (Generic p) counts s b at t = refl
 
 call-sorted : (s : List ℕ) (p : Place) (kind a b from : ℕ) → isTypePlace p ≡ true → sortedLead (callAt s p kind a b from) ≡ true
 unfolding callAt formOf entries bare leads
-call-sorted s p kind a b from t = number-test sortedLead (checkedAt s from) _ _ (λ c next. t) (λ r. refl)
+call-sorted s p kind a b from t = checked-test sortedLead (checkedAt s from) _ _ (λ c next. t) (λ r. refl)
 
 form-sorted : (f : Form) (s : List ℕ) (kind b at : ℕ) → signatureForm f ≡ true → sortedLead (leadForm f s kind b at) ≡ true
 unfolding leadForm countedOf genericAt
@@ -267,11 +268,11 @@ form-sorted Named s kind b at t = refl
 form-sorted Variable s kind b at t = refl
 form-sorted (Wrap p) s kind b at t = both _ _ t t
 form-sorted (Modified p) s kind b at t = refl
-form-sorted (Counted p) s kind b at t = number-test sortedLead (countAt 1 maxNumber s (at + 1)) _ _ (λ c next. both _ _ t t) (λ r. refl)
+form-sorted (Counted p) s kind b at t = checked-test sortedLead (countAt 1 maxNumber s (at + 1)) _ _ (λ c next. both _ _ t t) (λ r. refl)
 form-sorted Array s kind b at t = refl
 form-sorted Instance s kind b at t = refl
 form-sorted (Callable p) s kind b at t = call-sorted s p kind 0 b (at + 1) t
-form-sorted (Generic p) s kind b at t = number-test sortedLead (countAt 1 maxNumber s (at + 1)) _ _ (λ g next. call-sorted s p kind g b next t) (λ r. refl)
+form-sorted (Generic p) s kind b at t = checked-test sortedLead (countAt 1 maxNumber s (at + 1)) _ _ (λ g next. call-sorted s p kind g b next t) (λ r. refl)
 
 coded-sorted : {A : Type 0} (test : A → Bool) (d : ℕ) (s : List ℕ) (p : Place) (at n : ℕ) (shut : ℕ → ℕ → A) (x : A) → ((r q : ℕ) → test (shut r q) ≡ true) → test x ≡ true → test (coded d s p at n shut x) ≡ true
 coded-sorted test d s p at n shut x f e =
@@ -279,11 +280,12 @@ coded-sorted test d s p at n shut x f e =
     (cond-test test (allowed (formOf p (getD s at 0))) _ _ (cond-test test (leb 1 d) _ _ (cond-test test (ltb n maxNodes) _ _ e (f 10 at)) (f 6 at)) (f 5 at))
     (f 2 at)
 
-abbrev isShut : Open → Bool
+abbrev pub isShut : Open → Bool
 isShut (Open.Shut refusal q) = true
 isShut (Open.Leaf h next) = false
-isShut (Open.All h q next) = false
-isShut (Open.Signature h q next) = false
+isShut (Open.One h q next) = false
+isShut (Open.List h next) = false
+isShut (Open.FnPtr h next) = false
 isShut (Open.Array kind) = false
 
 abbrev isShutLead : Begun → Bool
@@ -296,18 +298,9 @@ module _ (s : List ℕ) (counts : Counts) (p : Place) (at n d : ℕ) where
   unfolding openAt
   open-begins o e f = coded-begins d s p at n Open.Shut _ isShut (λ r q. refl) (ap isShut e ∙ f)
 
-  pub open-all : isTypePlace p ≡ true → {h : Head} {q : Place} {next : ℕ} → openAt d counts s p at n ≡ Open.All h q next → isTypePlace q ≡ true
+  pub open-one : isTypePlace p ≡ true → {h : Head} {q : Place} {next : ℕ} → openAt d counts s p at n ≡ Open.One h q next → isTypePlace q ≡ true
   unfolding openAt
-  open-all t e = sym (ap sorted e) ∙ coded-sorted sorted d s p at n Open.Shut _ (λ r q. refl) (head-sorted (formOf p (getD s at 0)) counts s (getD s at 0) at (type-form p (getD s at 0) t))
-
-  pub open-signature : isTypePlace p ≡ true → {h : Head} {q : Place} {next : ℕ} → openAt d counts s p at n ≡ Open.Signature h q next → isTypePlace q ≡ false
-  unfolding openAt
-  open-signature t {q = q} e =
-      go (isTypePlace q) (sym (ap sorted e) ∙ coded-sorted sorted d s p at n Open.Shut _ (λ r q. refl) (head-sorted (formOf p (getD s at 0)) counts s (getD s at 0) at (type-form p (getD s at 0) t)))
-    where
-      go : (u : Bool) → cond u false true ≡ true → u ≡ false
-      go true h = sym h
-      go false h = refl
+  open-one t e = sym (ap sorted e) ∙ coded-sorted sorted d s p at n Open.Shut _ (λ r q. refl) (head-sorted (formOf p (getD s at 0)) counts s (getD s at 0) at (type-form p (getD s at 0) t))
 
 module _ (s : List ℕ) (p : Place) (at n d : ℕ) where
   pub lead-begins : {l : Lead} → leadAt d s p at n ≡ Begun.Go l → (0 < d) × (at < length s) × (n < maxNodes)

@@ -6,11 +6,10 @@ use lib.ListN.{getD}
 use Rattle.number.specs.Number.{maxNumber}
 use Rattle.number.specs.Checked.{checkedAt, onChecked, countAt}
 use Rattle.number.specs.declared.checked.Checked.{Checked}
-use Rattle.element.specs.Element.{formOf}
+use Rattle.element.specs.Element.{bySort, formOf}
 use Rattle.element.specs.declared.Place.{Place}
 use Rattle.element.specs.declared.Place.the-variants as Place
 use Rattle.element.specs.declared.Form.{Form}
-use Rattle.element.specs.declared.Form.the-variants.{Refused, Leaf, Named, Variable, Wrap, Modified, Counted, Array, Instance, Callable, Generic}
 use Rattle.grammar.specs.Table.{kindOf}
 use Rattle.opening.specs.Code.{coded}
 use Rattle.opening.specs.declared.signatures.Lead.{Lead}
@@ -36,17 +35,8 @@ genericAt s p kind b from = leading (countAt 1 maxNumber s from) from (λ g next
 
 -- behind its first byte b, which stands at `at`; the forms of types are not looked for here
 unfoldable pub leadForm : Form → List ℕ → (kind b at : ℕ) → Begun
-leadForm Refused s kind b at = Shut 5 at
-leadForm Leaf s kind b at = Shut 5 at
-leadForm Named s kind b at = Shut 5 at
-leadForm Variable s kind b at = Shut 5 at
-leadForm (Wrap p) s kind b at = Go (leadOf kind 0 0 1 p p (at + 1))
-leadForm (Modified p) s kind b at = Shut 5 at
-leadForm (Counted p) s kind b at = countedOf s p kind (at + 1)
-leadForm Array s kind b at = Shut 5 at
-leadForm Instance s kind b at = Shut 5 at
-leadForm (Callable p) s kind b at = callAt s p kind 0 b (at + 1)
-leadForm (Generic p) s kind b at = genericAt s p kind b (at + 1)
+leadForm f s kind b at =
+    bySort (Shut 5 at) (Shut 5 at) (λ p. Go (leadOf kind 0 0 1 p p (at + 1))) (λ p. Shut 5 at) (λ p. countedOf s p kind (at + 1)) (λ p. callAt s p kind 0 b (at + 1)) (λ p. genericAt s p kind b (at + 1)) f
 
 -- the first byte, for whose node d levels are left, and what follows it
 unfoldable pub leadAt : (d : ℕ) → List ℕ → Place → (at n : ℕ) → Begun

@@ -2,6 +2,7 @@
 use Prim.Native.Nat.{ℕ, zero, suc, _+_}
 use mathlib.Core.List.{List, [], _∷_, _++_}
 use Rattle.number.specs.declared.token.Counts.{Counts}
+use Rattle.element.specs.declared.Place.the-variants as Place
 use Rattle.grammar.specs.Table.{entry}
 use Rattle.grammar.specs.Judge.{Out, fault, done, bind, many, Reader, array}
 use Rattle.grammar.specs.declared.Node.{Node}
@@ -32,10 +33,15 @@ unfoldable pub series : (first rest : ℕ → ℕ → Out) → (k at n : ℕ) �
 series first rest zero at n = done at n []
 series first rest (suc k) at n = andThen (first at n) (many rest k)
 
+-- c types one after the other; what follows goes by how many nodes they are
+abbrev pub types : (first rest : ℕ → ℕ → Out) → (c at n : ℕ) → (ℕ → Out → Out) → Out
+types first rest c at n k = k c (series first rest c at n)
+
 -- a signature behind its lead
 unfoldable pub signatureOf : Reader → Counts → Lead → (at n : ℕ) → Out
 signatureOf read counts l at n =
-    sealed (series (read counts (l .first)) (read counts (l .rest)) (l .count) (l .next) (n + 1)) (headOf (l .kind) (l .a) (l .b) (l .count)) at
+    types (read counts (l .first)) (read counts (l .rest)) (l .count) (l .next) (n + 1)
+    (λ items o. sealed o (headOf (l .kind) (l .a) (l .b) items) at)
 
 unfoldable pub onLead : Begun → Reader → Counts → (at n : ℕ) → Out
 onLead (Begun.Shut refusal q) read counts at n = fault refusal q
@@ -44,6 +50,7 @@ onLead (Begun.Go l) read counts at n = signatureOf read counts l at n
 unfoldable pub onOpen : Open → Reader → (d : ℕ) → List ℕ → Counts → (at n : ℕ) → Out
 onOpen (Open.Shut refusal q) read d s counts at n = fault refusal q
 onOpen (Open.Leaf h next) read d s counts at n = sealed (done next (n + 1) []) h at
-onOpen (Open.All h p next) read d s counts at n = sealed (many (read counts p) (h .children) next (n + 1)) h at
-onOpen (Open.Signature h p next) read d s counts at n = sealed (read counts p next (n + 1)) h at
+onOpen (Open.One h p next) read d s counts at n = sealed (read counts p next (n + 1)) h at
+onOpen (Open.List h next) read d s counts at n = sealed (many (read counts Place.Type) (h .children) next (n + 1)) h at
+onOpen (Open.FnPtr h next) read d s counts at n = sealed (read counts Place.FnPtrMethod next (n + 1)) h at
 onOpen (Open.Array kind) read d s counts at n = array read d s counts kind at n

@@ -4,7 +4,7 @@ use Prim.Native.Nat.{ℕ, _+_}
 use mathlib.Core.Bool.{cond}
 use mathlib.Core.List.{List}
 use lib.ListN.{length, getD}
-use lib.Dec.{ltb}
+use lib.Dec.{ltb, eqb}
 use Rattle.number.specs.Number.{maxNumber}
 use Rattle.number.specs.Checked.{checkedAt, onChecked, countAt}
 use Rattle.number.specs.Token.{typeTags, modTags, tokenAt}
@@ -31,17 +31,21 @@ abbrev pub valuedOf : ℕ → Checked → ℕ → Open
 valuedOf kind c from = opening c from (λ v next. Open.Leaf (headOf kind v 0 0) next)
 
 abbrev pub modifiedOf : ℕ → Place → Checked → ℕ → Open
-modifiedOf kind p c from = opening c from (λ t next. Open.All (headOf kind t 0 1) p next)
+modifiedOf kind p c from = opening c from (λ t next. Open.One (headOf kind t 0 1) p next)
 
--- one child: a type, or a signature
+-- one child: a type, or FNPTR's method
 unfoldable pub wrappedOf : ℕ → Place → ℕ → Open
-wrappedOf kind p from = cond (isTypePlace p) (Open.All (headOf kind 0 0 1) p from) (Open.Signature (headOf kind 0 0 1) p from)
+wrappedOf kind p from = cond (isTypePlace p) (Open.One (headOf kind 0 0 1) p from) (Open.FnPtr (headOf kind 0 0 1) from)
+
+-- as many types as there are children
+unfoldable pub listedOf : Head → ℕ → Open
+listedOf h next = cond (eqb (h .children) 1) (Open.One h Place.Type next) (Open.List h next)
 
 -- behind the 11 or 12 of a GENERICINST
 unfoldable pub instanceOf : Counts → List ℕ → (kind which at : ℕ) → Open
 instanceOf counts s kind which at =
     opening (tokenAt typeTags counts s (at + 2)) (at + 2)
-    (λ t at₁. opening (countAt 1 maxNumber s at₁) at₁ (λ c next. Open.All (headOf kind t which c) Place.Type next))
+    (λ t at₁. opening (countAt 1 maxNumber s at₁) at₁ (λ c next. listedOf (headOf kind t which c) next))
 
 unfoldable pub instanceAt : Counts → List ℕ → (kind at : ℕ) → Open
 instanceAt counts s kind at =

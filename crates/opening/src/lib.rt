@@ -1,9 +1,9 @@
 // What stands before a node's children: its code byte and the numbers behind it, read without recursion. Types and signatures are read apart: the
 // walk is in the one for most nodes.
 ghost use mathlib.Core.Path.{_≡_};
-ghost use mathlib.Core.Bool.{cond};
-ghost use Rattle.element.specs.Element.{allowed, formOf};
+ghost use Rattle.opening.specs.Code.{crowdedOf, codeAt};
 use element::Place;
+use grammar::MAX_NODES;
 
 pub mod signatures;
 pub mod types;
@@ -16,12 +16,39 @@ pub struct Head {
     pub children: u32,
 }
 
+// A node's code byte, for whose node there is room; or a refusal's number.
+pub enum Code {
+    Shut { refusal: u32 },
+    Byte { byte: u8 },
+}
+
 // The refusal of a code byte for which there is no room: 5 where the byte is refused, else this number.
 fn crowded(place: Place, byte: u8, refusal: u32) -> u32
-    ensures { λ r. ⌜ r ≡ cond (allowed (formOf place byte)) refusal 5 ⌝ }
+    ensures { λ r. ⌜ r ≡ crowdedOf place byte refusal ⌝ }
 {
     if element::allows(place, byte) {
         return refusal;
     }
     5
+}
+
+// The code byte of a node, for which d levels are left. The room is looked at before the byte, for speed: both tests are rare.
+fn code_at(src: &[u8], place: Place, at: usize, n: usize, d: usize) -> Code
+    ensures { λ r. ⌜ r ≡ codeAt d (now (src .entry)) place at n ⌝ }
+{
+    if src.len() <= at {
+        return Code::Shut { refusal: 2 };
+    }
+    let byte = src[at];
+    if d == 0 {
+        return Code::Shut {
+            refusal: crowded(place, byte, 6),
+        };
+    }
+    if MAX_NODES <= n {
+        return Code::Shut {
+            refusal: crowded(place, byte, 10),
+        };
+    }
+    Code::Byte { byte }
 }

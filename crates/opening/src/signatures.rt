@@ -2,10 +2,12 @@
 ghost use mathlib.Core.Path.{_≡_};
 ghost use Prim.Native.Nat.{_<_};
 ghost use lib.ListN.{length};
+ghost use Rattle.element.specs.declared.Place.the-variants as Place;
 ghost use Rattle.opening.specs.Lead.{leadOf, countedOf, callAt, genericAt, leadForm, leadAt};
+use crate::Code;
 use element::Form;
 use element::Place;
-use grammar::MAX_NODES;
+use grammar::METHOD;
 use number::MAX_NUMBER;
 use number::checked::Checked;
 use number::checked::checked_at;
@@ -111,19 +113,27 @@ fn lead_form(src: &[u8], form: Form, kind: u32, byte: u8, at: usize) -> Begun
 pub fn lead_at(src: &[u8], place: Place, at: usize, n: usize, d: usize) -> Begun
     ensures { λ r. ⌜ r ≡ leadAt d (now (src .entry)) place at n ⌝ }
 {
-    if src.len() <= at {
-        return Begun::Shut { refusal: 2, at };
+    match crate::code_at(src, place, at, n, d) {
+        Code::Shut { refusal } => Begun::Shut { refusal, at },
+        Code::Byte { byte } => {
+            let form = element::signature_form_of(place, byte);
+            let kind = grammar::kind_of(place, byte);
+            lead_form(src, form, kind, byte, at)
+        }
     }
-    let byte = src[at];
-    if d == 0 {
-        let refusal = crate::crowded(place, byte, 6);
-        return Begun::Shut { refusal, at };
+}
+
+// The method below a FNPTR up to its types.
+pub fn fn_ptr_lead_at(src: &[u8], at: usize, n: usize, d: usize) -> Begun
+    ensures { λ r. ⌜ r ≡ leadAt d (now (src .entry)) Place.FnPtrMethod at n ⌝ }
+{
+    match crate::code_at(src, Place::FnPtrMethod, at, n, d) {
+        Code::Shut { refusal } => Begun::Shut { refusal, at },
+        Code::Byte { byte } => {
+            if element::is_lead(byte) {
+                return call_at(src, Place::Param, METHOD, 0, byte, at + 1);
+            }
+            Begun::Shut { refusal: 5, at }
+        }
     }
-    if MAX_NODES <= n {
-        let refusal = crate::crowded(place, byte, 10);
-        return Begun::Shut { refusal, at };
-    }
-    let form = element::form_of(place, byte);
-    let kind = grammar::kind_of(place, byte);
-    lead_form(src, form, kind, byte, at)
 }

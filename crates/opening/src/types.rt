@@ -4,13 +4,13 @@ ghost use mathlib.Core.Bool.{true};
 ghost use Prim.Native.Nat.{_+_, _<_};
 ghost use lib.ListN.{length};
 ghost use Rattle.element.specs.Element.{isTypePlace};
-ghost use Rattle.opening.specs.Open.{headOf, valuedOf, modifiedOf, wrappedOf, instanceOf, instanceAt, headAt, openAt};
+ghost use Rattle.opening.specs.Open.{headOf, valuedOf, modifiedOf, listedOf, wrappedOf, instanceOf, instanceAt, headAt, openAt};
+use crate::Code;
 use crate::Head;
 use element::Form;
 use element::Place;
 use element::types::is_type_place;
 use element::types::type_form_of;
-use grammar::MAX_NODES;
 use number::MAX_NUMBER;
 use number::checked::Checked;
 use number::checked::checked_at;
@@ -19,8 +19,8 @@ use number::token::MOD_TAGS;
 use number::token::TYPE_TAGS;
 use number::token::token_at;
 
-// A type before its children: refused, with the refusal's number and offset; without children; with some in one place of a type; with one in the
-// place of a signature; an array, whose numbers stand behind its first child.
+// A type before its children: refused, with the refusal's number and offset; without children; with one, in a place of a type; with some, each a Type;
+// FNPTR, before its method; an array, whose numbers stand behind its first child.
 pub enum Open {
     Shut {
         refusal: u32,
@@ -30,14 +30,17 @@ pub enum Open {
         head: Head,
         next: usize,
     },
-    All {
+    One {
         head: Head,
         child: Place,
         next: usize,
     },
-    Signature {
+    List {
         head: Head,
-        child: Place,
+        next: usize,
+    },
+    FnPtr {
+        head: Head,
         next: usize,
     },
     Array {
@@ -74,13 +77,28 @@ fn modified(kind: u32, child: Place, token: Checked, from: usize) -> Open
     ensures { λ r. ⌜ r ≡ modifiedOf kind child token from ⌝ }
 {
     match token {
-        Checked::Good { value, next } => Open::All {
+        Checked::Good { value, next } => Open::One {
             head: head_of(kind, value, 0, 1),
             child,
             next,
         },
         Checked::Bad { refusal } => Open::Shut { refusal, at: from },
     }
+}
+
+// Types, which stand at `next`, as many as there are children.
+fn listed(head: Head, next: usize) -> Open
+    ensures { λ r. ⌜ r ≡ listedOf head next ⌝ }
+{
+    let k = head.children;
+    if k == 1 {
+        return Open::One {
+            head,
+            child: Place::Type,
+            next,
+        };
+    }
+    Open::List { head, next }
 }
 
 // GENERICINST: 11 or 12, a TypeDef or TypeRef token, a count of at least 1, then that many types.
@@ -124,34 +142,28 @@ fn instance_of(src: &[u8], counts: Counts, kind: u32, which: u8, at: usize) -> O
             1,
             MAX_NUMBER,
         ) {
-            Checked::Good { value, next: then } => Open::All {
-                head: head_of(kind, token, which as u32, value),
-                child: Place::Type,
-                next: then,
-            },
+            Checked::Good { value, next: then } => {
+                listed(head_of(kind, token, which as u32, value), then)
+            }
             Checked::Bad { refusal } => Open::Shut { refusal, at: next },
         },
         Checked::Bad { refusal } => Open::Shut { refusal, at: from },
     }
 }
 
-// One child, which stands at `from`.
+// One child, which stands at `from`: a type, or a method.
 fn wrapped(kind: u32, child: Place, from: usize) -> Open
     ensures { λ r. ⌜ r ≡ wrappedOf kind child from ⌝ }
 {
     let head = head_of(kind, 0, 0, 1);
     if is_type_place(child) {
-        return Open::All {
+        return Open::One {
             head,
             child,
             next: from,
         };
     }
-    Open::Signature {
-        head,
-        child,
-        next: from,
-    }
+    Open::FnPtr { head, next: from }
 }
 
 // What follows a type's code byte, which is its kind.
@@ -179,23 +191,16 @@ fn head_at(src: &[u8], counts: Counts, form: Form, byte: u8, at: usize) -> Open
     }
 }
 
-// A type up to its children. The room is looked at before the byte, for speed: both tests are rare.
+// A type up to its children.
 pub fn open_at(src: &[u8], counts: Counts, place: Place, at: usize, n: usize, d: usize) -> Open
     requires { ⌜ isTypePlace place ≡ true ⌝ }
     ensures { λ r. ⌜ r ≡ openAt d counts (now (src .entry)) place at n ⌝ }
 {
-    if src.len() <= at {
-        return Open::Shut { refusal: 2, at };
+    match crate::code_at(src, place, at, n, d) {
+        Code::Shut { refusal } => Open::Shut { refusal, at },
+        Code::Byte { byte } => {
+            let form = type_form_of(place, byte);
+            head_at(src, counts, form, byte, at)
+        }
     }
-    let byte = src[at];
-    if d == 0 {
-        let refusal = crate::crowded(place, byte, 6);
-        return Open::Shut { refusal, at };
-    }
-    if MAX_NODES <= n {
-        let refusal = crate::crowded(place, byte, 10);
-        return Open::Shut { refusal, at };
-    }
-    let form = type_form_of(place, byte);
-    head_at(src, counts, form, byte, at)
 }

@@ -3,7 +3,7 @@
 -- Assumes nothing.
 use Prim.Native.Nat.{ℕ, _-_, _*_}
 use mathlib.Core.Path.{_≡_, refl}
-use mathlib.Core.List.{List}
+use mathlib.Core.List.{List, _∷_}
 use mathlib.Core.Bool.{Bool, true, false, cond, _||_}
 use lib.ListN.{length, getD}
 use lib.Dec.{T, ltb, eqb}
@@ -16,7 +16,7 @@ use Rattle.answer.specs.Answers.{rowCode, admitCode, ackCode, told}
 use Rattle.answer.proofs.Admits.{by-code}
 use Rattle.register.specs.declared.Register.{Register}
 use Rattle.register.specs.declared.Changed.{Changed}
-use Rattle.register.specs.Refusals.{openRefusals, callRefusals}
+use Rattle.register.specs.Refusals.{openRefusals, callRefusals, ackRefusals}
 use Rattle.register.specs.Calls.{Left, left, blankRegister, changed, tooMany, openCode, openOf, fileOf, standingAt, marked, acknowledgeAt, acknowledgeOf, askAt, askOf}
 
 -- opened, or refused with a register of 0 rows and the numbers as they were
@@ -29,12 +29,10 @@ pub data Filing (g : Register) (l : List ℕ) : Left → Type 0 where
   done : (h : Register) (m : List ℕ) → Filing g l (left (changed 0 h) m)
   refused : {code : ℕ} → T (among callRefusals code) → Filing g l (left (changed code g) l)
 
--- done, or refused with the register as it was: 17 and 18 too
+-- done, or refused with the register as it was
 pub data Acknowledging (g : Register) : Changed → Type 0 where
   done : (h : Register) → Acknowledging g (changed 0 h)
-  refused : {code : ℕ} → T (among callRefusals code) → Acknowledging g (changed code g)
-  not-due : Acknowledging g (changed 17 g)
-  marked-already : Acknowledging g (changed 18 g)
+  refused : {code : ℕ} → T (among ackRefusals code) → Acknowledging g (changed code g)
 
 -- done, or refused with four 0s
 pub data Asking : Asked → Type 0 where
@@ -61,6 +59,14 @@ refuses lent rows row = go (ltb maxSize rows) (ltb lent (rows * words)) (eqb row
     go false false true ne = tt
     go false false false ne = absurd (ne refl)
 
+-- a number of a list is one of a longer list
+more : (x n : ℕ) (xs : List ℕ) → T (among xs n) → T (among (x ∷ xs) n)
+more x n xs h = go (eqb n x)
+  where
+    go : (t : Bool) → T (t || among xs n)
+    go true = tt
+    go false = h
+
 pub open-answers : (counts : Counts) (l : List ℕ) → Opening l (openOf counts l)
 unfolding openOf
 open-answers counts l = by-code (Opening l) (openCode counts (length l)) (λ z. opened _ _) (λ ne. refused (unopened counts (length l) ne))
@@ -78,13 +84,15 @@ module _ (g : Register) (l : List ℕ) (row : ℕ) where
   ack-at i = go (eqb (standingAt g i l) 0 || eqb (standingAt g i l) 4) (eqb (getD (g .marks) i 0) 0)
     where
       go : (a b : Bool) → Acknowledging g (cond (eqb (cond a 17 (cond b 0 18)) 0) (changed 0 (marked g i 1)) (changed (cond a 17 (cond b 0 18)) g))
-      go true b = not-due
+      go true b = refused tt
       go false true = done (marked g i 1)
-      go false false = marked-already
+      go false false = refused tt
 
   pub ack-answers : Acknowledging g (acknowledgeOf g row l)
   unfolding acknowledgeOf
-  ack-answers = by-code (Acknowledging g) admitted (λ z. ack-at (row - 1)) (λ ne. refused (refuses (length l) (g .counts .specs) row ne))
+  ack-answers =
+      by-code (Acknowledging g) admitted (λ z. ack-at (row - 1))
+      (λ ne. refused (more 17 admitted (18 ∷ callRefusals) (more 18 admitted callRefusals (refuses (length l) (g .counts .specs) row ne))))
 
   pub ask-answers : Asking (askOf g row l)
   unfolding askOf askAt

@@ -9,3 +9,7 @@ openRefusals = 13 ∷ 19 ∷ 27 ∷ []
 -- "Filing, asking and acknowledging first answer 19", then 27, 16
 abbrev pub callRefusals : List ℕ
 callRefusals = 19 ∷ 27 ∷ 16 ∷ []
+
+-- "Acknowledge: 16, 17, 18", behind those of every call
+abbrev pub ackRefusals : List ℕ
+ackRefusals = 17 ∷ 18 ∷ callRefusals

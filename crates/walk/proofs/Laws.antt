@@ -13,6 +13,7 @@ use Rattle.number.specs.declared.checked.Checked.{Checked}
 use Rattle.number.specs.declared.checked.Checked.the-variants.{Good, Bad}
 use Rattle.number.specs.declared.token.Counts.{Counts}
 use Rattle.element.specs.declared.Place.the-variants as Place
+use Rattle.number.proofs.Checks.{checked-through}
 use Rattle.grammar.specs.Limits.{maxNodes, maxRank}
 use Rattle.grammar.specs.Table.{SIZE}
 use Rattle.grammar.specs.Judge.{Out, fault, done, bind, numbered, many, size, low, Reader, array, node}
@@ -301,8 +302,7 @@ module _ (at : ℕ) (acc : List Node) where
   number-closed : (o : Checked) (from : ℕ) (k : ℕ → ℕ → Out) (h : ℕ → ℕ → ShapeOut) → ((v next : ℕ) → k v next ≡ closed (shapePrepend acc (h v next)) at)
       → numbered o from k ≡ closed (shapePrepend acc (shapeNumber o from h)) at
   unfolding shapePrepend closed
-  number-closed (Good v next) from k h f = f v next
-  number-closed (Bad refusal) from k h f = refl
+  number-closed o from k h f = checked-through (λ x. closed (shapePrepend acc x) at) o f (λ refusal. refl)
 
   prepend-twice : (rs : List Node) (t : ShapeOut) → shapePrepend (acc ++ rs) t ≡ shapePrepend acc (shapePrepend rs t)
   unfolding shapePrepend

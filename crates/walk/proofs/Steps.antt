@@ -12,6 +12,7 @@ use Rattle.number.specs.declared.checked.Checked.the-variants.{Good, Bad}
 use Rattle.number.specs.declared.token.Counts.{Counts}
 use Rattle.element.specs.Element.{isTypePlace}
 use Rattle.element.specs.declared.Place.{Place}
+use Rattle.element.specs.declared.Place.the-variants as Place
 use Rattle.grammar.specs.Limits.{maxNodes}
 use Rattle.grammar.specs.Judge.{Out, fault, done, many, bound, array, node}
 use Rattle.grammar.proofs.Bounds.{Ends, ends-many, ends-node}
@@ -25,12 +26,14 @@ use Rattle.opening.specs.declared.signatures.Begun.{Begun}
 use Rattle.opening.specs.declared.signatures.Begun.the-variants as Begun
 use Rattle.opening.specs.declared.types.Open.{Open}
 use Rattle.opening.specs.declared.types.Open.the-variants as Open
-use Rattle.opening.proofs.Opens.{many-one, series-same, one-series, node-open, open-begins, open-all, open-signature, node-lead, lead-begins, lead-types}
-use Rattle.walk.specs.Table.{smallOf, Sealed}
-use Rattle.walk.specs.Walk.{Walked}
+use Rattle.opening.proofs.Opens.{series-same, one-series, node-open, isShut, open-begins, open-one, node-lead, lead-begins, lead-types}
+use Rattle.walk.specs.Table.{smallOf, sealsOf, Sealed}
+use Rattle.walk.specs.Walk.{walkOf, Walked, seriesOf, endOf, itemsOf, WalkedSeries}
 use Rattle.walk.specs.declared.Walk.{Walk}
 use Rattle.walk.specs.declared.Walk.the-variants.{Next, Stop}
-use Rattle.walk.proofs.Laws.{walked-fault, walked-is, still, walked-seal, walked-small}
+use Rattle.walk.specs.declared.Series.{Series}
+use Rattle.walk.specs.declared.Series.the-variants as Series
+use Rattle.walk.proofs.Laws.{walked-fault, walked-is, found, still, walked-seal, walked-small}
 
 -- ---- bound_of
 
@@ -59,10 +62,6 @@ module _ (kind d at n : ℕ) (y x : Checked) (e : y ≡ x) where
 
 -- ---- types_at
 
--- all in one place
-alike : (f : ℕ → ℕ → Out) (k at n : ℕ) (r : Walk) (o o₁ : List ℕ) → Walked (series f f k at n) n r o o₁ → Walked (many f k at n) n r o o₁
-alike f k at n r o o₁ x = walked-is _ _ n r o o₁ (sym (series-same f k at n)) x
-
 module _ (d : ℕ) (s : List ℕ) (counts : Counts) (p : Place) (at n : ℕ) (t : isTypePlace p ≡ true) (y : Open) (e : y ≡ openAt d counts s p at n) where
   opened-as : (x : Open) → y ≡ x → node d s counts p at n ≡ onOpen x (node (d - 1) s) (d - 1) s counts at n
   opened-as x g = node-open s counts p at n d t ∙ ap (λ (z : Open). onOpen z (node (d - 1) s) (d - 1) s counts at n) (sym e ∙ g)
@@ -79,55 +78,78 @@ module _ (d : ℕ) (s : List ℕ) (counts : Counts) (p : Place) (at n : ℕ) (t 
     unfolding onOpen
     leaf-done r o o₁ z = walked-is _ _ n r o o₁ (opened-as _ g) (walked-seal _ n h at _ r o o o₁ (still next (n + 1) (n + 1) o) z)
 
-  module _ (h : Head) (q : Place) (next : ℕ) (g : y ≡ Open.All h q next) where
-    pub all-bounds : (0 < d) × (at < length s) × (n < maxNodes) × (isTypePlace q ≡ true)
-    all-bounds = let b = open-begins s counts p at n d _ (sym e ∙ g) refl in (b .0, b .1, b .2, open-all s counts p at n d t (sym e ∙ g))
+  -- a node with one child is that child's outcome, sealed
+  module _ (h : Head) (q : Place) (next : ℕ) (g : y ≡ Open.One h q next) where
+    pub one-bounds : (0 < d) × (at < length s) × (n < maxNodes) × (isTypePlace q ≡ true)
+    one-bounds = let b = open-begins s counts p at n d _ (sym e ∙ g) refl in (b .0, b .1, b .2, open-one s counts p at n d t (sym e ∙ g))
 
-    -- with one child it is that child's outcome, sealed
-    pub all-one : h .children ≡ 1 → node d s counts p at n ≡ sealed (node (d - 1) s counts q next (n + 1)) h at
+    pub one-node : node d s counts p at n ≡ sealed (node (d - 1) s counts q next (n + 1)) h at
     unfolding onOpen
-    all-one e =
-        opened-as _ g
-        ∙ ap (λ (k : ℕ). sealed (many (node (d - 1) s counts q) k next (n + 1)) h at) e
-        ∙ ap (λ (o : Out). sealed o h at) (many-one (node (d - 1) s counts q) next (n + 1))
+    one-node = opened-as _ g
 
-    module _ (w : Walk) (o₀ o₁ : List ℕ) (x : Walked (series (node (d - 1) s counts q) (node (d - 1) s counts q) (h .children) next (n + 1)) (n + 1) w o₀ o₁) where
-      pub all-small : smallOf w
-      all-small =
-          walked-small _ (n + 1) w o₀ o₁
-          (ends-many (node (d - 1) s counts q) (ends-node s (d - 1) counts q) (h .children) next (n + 1) (omega (arith, all-bounds .2)))
-          (alike _ _ _ (n + 1) w o₀ o₁ x)
+  -- a list, FNPTR, an array
+  pub below-bounds : (x : Open) → y ≡ x → isShut x ≡ false → (0 < d) × (at < length s) × (n < maxNodes)
+  below-bounds x g f = open-begins s counts p at n d x (sym e ∙ g) f
 
-      pub all-done : (r : Walk) (o₂ : List ℕ) → Sealed w n h at r o₁ o₂ → Walked (node d s counts p at n) n r o₀ o₂
-      unfolding onOpen
-      all-done r o₂ z = walked-is _ _ n r o₀ o₂ (opened-as _ g) (walked-seal _ n h at w r o₀ o₁ o₂ (alike _ _ _ (n + 1) w o₀ o₁ x) z)
-
-  module _ (h : Head) (q : Place) (next : ℕ) (g : y ≡ Open.Signature h q next) where
-    pub pointer-bounds : (0 < d) × (at < length s) × (n < maxNodes) × (isTypePlace q ≡ false)
-    pointer-bounds = let b = open-begins s counts p at n d _ (sym e ∙ g) refl in (b .0, b .1, b .2, open-signature s counts p at n d t (sym e ∙ g))
-
-    module _ (w : Walk) (o₀ o₁ : List ℕ) (x : Walked (node (d - 1) s counts q next (n + 1)) (n + 1) w o₀ o₁) where
-      pub pointer-small : smallOf w
-      pointer-small = walked-small _ (n + 1) w o₀ o₁ (ends-node s (d - 1) counts q next (n + 1)) x
-
-      pub pointer-done : (r : Walk) (o₂ : List ℕ) → Sealed w n h at r o₁ o₂ → Walked (node d s counts p at n) n r o₀ o₂
-      unfolding onOpen
-      pointer-done r o₂ z = walked-is _ _ n r o₀ o₂ (opened-as _ g) (walked-seal _ n h at w r o₀ o₁ o₂ x z)
-
-  module _ (kind : ℕ) (g : y ≡ Open.Array kind) where
-    pub array-bounds : (0 < d) × (at < length s) × (n < maxNodes)
-    array-bounds = open-begins s counts p at n d _ (sym e ∙ g) refl
-
-    pub array-node : (r : Walk) (o o₁ : List ℕ) → Walked (array (node (d - 1) s) (d - 1) s counts kind at n) n r o o₁ → Walked (node d s counts p at n) n r o o₁
+  module _ (r : Walk) (o o₁ : List ℕ) where
+    pub list-node : (h : Head) (next : ℕ) → y ≡ Open.List h next → Walked (sealed (many (node (d - 1) s counts Place.Type) (h .children) next (n + 1)) h at) n r o o₁ → Walked (node d s counts p at n) n r o o₁
     unfolding onOpen
-    array-node r o o₁ x = walked-is _ _ n r o o₁ (opened-as _ g) x
+    list-node h next g x = walked-is _ _ n r o o₁ (opened-as _ g) x
+
+    pub fn-ptr-node : (h : Head) (next : ℕ) → y ≡ Open.FnPtr h next → Walked (sealed (node (d - 1) s counts Place.FnPtrMethod next (n + 1)) h at) n r o o₁ → Walked (node d s counts p at n) n r o o₁
+    unfolding onOpen
+    fn-ptr-node h next g x = walked-is _ _ n r o o₁ (opened-as _ g) x
+
+    pub array-node : (kind : ℕ) → y ≡ Open.Array kind → Walked (array (node (d - 1) s) (d - 1) s counts kind at n) n r o o₁ → Walked (node d s counts p at n) n r o o₁
+    unfolding onOpen
+    array-node kind g x = walked-is _ _ n r o o₁ (opened-as _ g) x
+
+pub series-ended : (o : Out) (k n e m i : ℕ) (o₀ o₁ : List ℕ) → i ≡ k → Walked o n (Next e m) o₀ o₁ → WalkedSeries o k n (Series.Next e m i) o₀ o₁
+unfolding seriesOf
+series-ended o k n e m i o₀ o₁ z x = record { result = rw (← x .result, z); left = x .left }
+
+pub series-stopped : (o : Out) (k n c q : ℕ) (o₀ o₁ : List ℕ) → Walked o n (Stop c q) o₀ o₁ → WalkedSeries o k n (Series.Stop c q) o₀ o₁
+unfolding seriesOf
+series-stopped o k n c q o₀ o₁ x = record { result = rw (← x .result); left = x .left }
+
+-- ---- what `types_at` gave is t
+
+module _ (o : Out) (k n : ℕ) (t : Series) (o₀ o₁ : List ℕ) (x : WalkedSeries o k n t o₀ o₁) where
+  pub series-walked : Walked o n (endOf t) o₀ o₁
+  unfolding seriesOf endOf
+  series-walked = record { result = ap endOf (x .result) ∙ ended (walkOf o); left = x .left }
+    where
+      ended : (w : Walk) → endOf (seriesOf w k) ≡ w
+      ended (Next e m) = refl
+      ended (Stop c q) = refl
+
+  -- a record that says how many were read says k
+  series-items : (m kind a b at : ℕ) (r : Walk) (o₂ : List ℕ) → Sealed (endOf t) m (headOf kind a b (itemsOf t)) at r o₁ o₂ → Sealed (endOf t) m (headOf kind a b k) at r o₁ o₂
+  unfolding seriesOf endOf itemsOf sealsOf
+  series-items m kind a b at r o₂ z = record { result = z .result; left = z .left ∙ same (walkOf o) t (x .result) }
+    where
+      same : (w : Walk) (u : Series) → u ≡ seriesOf w k → sealsOf (endOf u) m (headOf kind a b (itemsOf u)) at o₁ ≡ sealsOf (endOf u) m (headOf kind a b k) at o₁
+      same (Next e i) u q = rw q
+      same (Stop c i) u q = rw q
+
+-- ---- list_at
+
+module _ (f : ℕ → ℕ → Out) (k next n : ℕ) (t : Series) (o₀ o₁ : List ℕ) (x : WalkedSeries (series f f k next (n + 1)) k (n + 1) t o₀ o₁) (w : Walk) (e : w ≡ endOf t) where
+  listed : Walked (many f k next (n + 1)) (n + 1) w o₀ o₁
+  listed = walked-is _ _ (n + 1) w o₀ o₁ (sym (series-same f k next (n + 1))) (found _ (n + 1) _ w o₀ o₁ (sym e) (series-walked _ k (n + 1) t o₀ o₁ x))
+
+  pub list-small : ((at m : ℕ) → Holds (Ends m) (f at m)) → n < maxNodes → smallOf w
+  list-small ends h = walked-small _ (n + 1) w o₀ o₁ (ends-many f ends k next (n + 1) (omega arith)) listed
+
+  pub list-done : (h : Head) (at : ℕ) (r : Walk) (o₂ : List ℕ) → Sealed w n h at r o₁ o₂ → Walked (sealed (many f k next (n + 1)) h at) n r o₀ o₂
+  list-done h at r o₂ z = walked-seal _ n h at w r o₀ o₁ o₂ listed z
 
 -- ---- type_at
 
-pub one-walked : (f : ℕ → ℕ → Out) (at n : ℕ) (r : Walk) (o o₁ : List ℕ) → Walked (series f f 1 at n) n r o o₁ → Walked (f at n) n r o o₁
-one-walked f at n r o o₁ x = walked-is _ _ n r o o₁ (sym (one-series f at n)) x
+pub one-walked : (f : ℕ → ℕ → Out) (at n : ℕ) (t : Series) (o o₁ : List ℕ) → WalkedSeries (series f f 1 at n) 1 n t o o₁ → (r : Walk) → r ≡ endOf t → Walked (f at n) n r o o₁
+one-walked f at n t o o₁ x r e = walked-is _ _ n r o o₁ (sym (one-series f at n)) (found _ n _ r o o₁ (sym e) (series-walked _ 1 n t o o₁ x))
 
--- ---- signature_at
+-- ---- method_at and signature_at
 
 ends-series : (f g : ℕ → ℕ → Out) → ((at n : ℕ) → Holds (Ends n) (f at n)) → ((at n : ℕ) → Holds (Ends n) (g at n)) → (k at n : ℕ) → n ≤ maxNodes → Holds (Ends n) (series f g k at n)
 unfolding series andThen
@@ -145,21 +167,24 @@ signature-bounds d s p at n t y e l g =
     let f = lead-types s p at n d t (sym e ∙ g) in
     (b .0, b .1, b .2, f .0, f .1)
 
-module _ (d : ℕ) (s : List ℕ) (counts : Counts) (p : Place) (at n : ℕ) (t : isTypePlace p ≡ false) (y : Begun) (e : y ≡ leadAt d s p at n) where
+module _ (d : ℕ) (s : List ℕ) (counts : Counts) (p : Place) (at n : ℕ) (f : isTypePlace p ≡ false) (y : Begun) (e : y ≡ leadAt d s p at n) where
   led-as : (x : Begun) → y ≡ x → node d s counts p at n ≡ onLead x (node (d - 1) s) counts at n
-  led-as x g = node-lead s counts p at n d t ∙ ap (λ (z : Begun). onLead z (node (d - 1) s) counts at n) (sym e ∙ g)
+  led-as x g = node-lead s counts p at n d f ∙ ap (λ (z : Begun). onLead z (node (d - 1) s) counts at n) (sym e ∙ g)
 
   pub signature-stop : (c q : ℕ) (o : List ℕ) → y ≡ Begun.Shut c q → Walked (node d s counts p at n) n (Stop c q) o o
   unfolding onLead
   signature-stop c q o g = walked-fault _ n c q o (led-as _ g)
 
   module _ (l : Lead) (g : y ≡ Begun.Go l) where
-    module _ (w : Walk) (o₀ o₁ : List ℕ) (x : Walked (series (node (d - 1) s counts (l .first)) (node (d - 1) s counts (l .rest)) (l .count) (l .next) (n + 1)) (n + 1) w o₀ o₁) where
-      pub signature-small : smallOf w
+    module _ (t : Series) (o₀ o₁ : List ℕ) (x : WalkedSeries (series (node (d - 1) s counts (l .first)) (node (d - 1) s counts (l .rest)) (l .count) (l .next) (n + 1)) (l .count) (n + 1) t o₀ o₁) where
+      pub signature-small : smallOf (endOf t)
       signature-small =
-          walked-small _ (n + 1) w o₀ o₁
-          (ends-series _ _ (ends-node s (d - 1) counts (l .first)) (ends-node s (d - 1) counts (l .rest)) (l .count) (l .next) (n + 1) (omega (arith, signature-bounds d s p at n t y e l g .2))) x
+          walked-small _ (n + 1) (endOf t) o₀ o₁
+          (ends-series _ _ (ends-node s (d - 1) counts (l .first)) (ends-node s (d - 1) counts (l .rest)) (l .count) (l .next) (n + 1) (omega (arith, signature-bounds d s p at n f y e l g .2)))
+          (series-walked _ _ (n + 1) t o₀ o₁ x)
 
-      pub signature-done : (r : Walk) (o₂ : List ℕ) → Sealed w n (headOf (l .kind) (l .a) (l .b) (l .count)) at r o₁ o₂ → Walked (node d s counts p at n) n r o₀ o₂
+      pub signature-done : (r : Walk) (o₂ : List ℕ) → Sealed (endOf t) n (headOf (l .kind) (l .a) (l .b) (itemsOf t)) at r o₁ o₂ → Walked (node d s counts p at n) n r o₀ o₂
       unfolding onLead signatureOf
-      signature-done r o₂ q = walked-is _ _ n r o₀ o₂ (led-as _ g) (walked-seal _ n _ at w r o₀ o₁ o₂ x q)
+      signature-done r o₂ q =
+          walked-is _ _ n r o₀ o₂ (led-as _ g)
+          (walked-seal _ n _ at (endOf t) r o₀ o₁ o₂ (series-walked _ _ (n + 1) t o₀ o₁ x) (series-items _ _ (n + 1) t o₀ o₁ x n (l .kind) (l .a) (l .b) at r o₂ q))

@@ -7,6 +7,8 @@ use Rattle.grammar.specs.Judge.{Out, fault, done}
 use Rattle.walk.specs.Table.{stamp}
 use Rattle.walk.specs.declared.Walk.{Walk}
 use Rattle.walk.specs.declared.Walk.the-variants as Walk
+use Rattle.walk.specs.declared.Series.{Series}
+use Rattle.walk.specs.declared.Series.the-variants as Series
 
 -- on a fault only the table's length is promised
 unfoldable pub leaves : Out → ℕ → List ℕ → List ℕ → Type 0
@@ -20,4 +22,25 @@ walkOf (done at m rs) = Walk.Next at m
 -- a walk from index n on: its result, and what it leaves
 pub record Walked (o : Out) (n : ℕ) (r : Walk) (before after : List ℕ) : Type 0 where
   pub result : r ≡ walkOf o
+  pub left : leaves o n before after
+
+-- ---- types one after the other
+
+-- how a walk over so many of them ends
+unfoldable pub seriesOf : Walk → ℕ → Series
+seriesOf (Walk.Next at m) items = Series.Next at m items
+seriesOf (Walk.Stop refusal q) items = Series.Stop refusal q
+
+-- without their number
+unfoldable pub endOf : Series → Walk
+endOf (Series.Next at m items) = Walk.Next at m
+endOf (Series.Stop refusal q) = Walk.Stop refusal q
+
+-- their number, where they are read
+unfoldable pub itemsOf : Series → ℕ
+itemsOf (Series.Next at m items) = items
+itemsOf (Series.Stop refusal q) = 0
+
+pub record WalkedSeries (o : Out) (items n : ℕ) (r : Series) (before after : List ℕ) : Type 0 where
+  pub result : r ≡ seriesOf (walkOf o) items
   pub left : leaves o n before after

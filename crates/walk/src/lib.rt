@@ -7,16 +7,21 @@ ghost use mathlib.Core.Bool.{true, false};
 ghost use Prim.Native.Nat.{_+_, _≤_, _<_};
 ghost use lib.ListN.{length};
 ghost use Rattle.grammar.specs.Limits.{maxBytes, maxNodes, maxDepth};
-ghost use Rattle.grammar.specs.Judge.{node, array};
+ghost use Rattle.grammar.specs.Judge.{node, array, many};
 ghost use Rattle.grammar.specs.Kinds.{rootOf};
 ghost use Rattle.element.specs.Element.{isTypePlace};
-ghost use Rattle.opening.specs.Means.{series};
-ghost use Rattle.walk.specs.Walk.{Walked};
+ghost use Rattle.element.specs.declared.Place.the-variants as Place;
+ghost use Rattle.opening.specs.Open.{headOf};
+ghost use Rattle.opening.specs.Means.{sealed, series};
+ghost use Rattle.walk.specs.Table.{smallOf, Sealed};
+ghost use Rattle.walk.specs.Walk.{Walked, WalkedSeries, endOf, itemsOf};
 use element::Place;
 use grammar::MAX_DEPTH;
 use number::token::Counts;
 use opening::Head;
 use opening::signatures::Begun;
+use opening::signatures::Lead;
+use opening::signatures::fn_ptr_lead_at;
 use opening::signatures::lead_at;
 use opening::types::Open;
 use opening::types::open_at;
@@ -34,6 +39,21 @@ pub enum Walk {
     Stop { refusal: u32, at: usize },
 }
 
+// Types one after the other: where the walk goes on, and how many they are; or as in Walk.
+pub enum Series {
+    Next { at: usize, node: usize, items: u32 },
+    Stop { refusal: u32, at: usize },
+}
+
+fn end_of(series: Series) -> Walk
+    ensures { λ r. ⌜ r ≡ endOf series ⌝ }
+{
+    match series {
+        Series::Next { at, node, items: _ } => Walk::Next { at, node },
+        Series::Stop { refusal, at } => Walk::Stop { refusal, at },
+    }
+}
+
 // A type: the node with index n, for which d levels are left.
 fn type_at(
     out: &mut [u32],
@@ -47,38 +67,7 @@ fn type_at(
     requires { ⌜ (length (now src) ≤ maxBytes) × (isTypePlace place ≡ true) ⌝ }
     ensures { λ r. ⌜ Walked (node d (now (src .entry)) counts place at n) n r (now (out .entry)) (now (out .exit)) ⌝ }
 {
-    types_at(out, d, &*src, counts, place, place, 1, at, n)
-}
-
-// A field, locals, a property or a method, whose return type and parameters are types again. The head is made when they have been read.
-fn signature_at(
-    out: &mut [u32],
-    d: usize,
-    src: &[u8],
-    counts: Counts,
-    place: Place,
-    at: usize,
-    n: usize,
-) -> Walk
-    requires { ⌜ (length (now src) ≤ maxBytes) × (isTypePlace place ≡ false) ⌝ }
-    ensures { λ r. ⌜ Walked (node d (now (src .entry)) counts place at n) n r (now (out .entry)) (now (out .exit)) ⌝ }
-{
-    match lead_at(src, place, at, n, d) {
-        Begun::Shut { refusal, at: q } => Walk::Stop { refusal, at: q },
-        Begun::Go { lead } => {
-            let first = lead.first;
-            let rest = lead.rest;
-            let k = lead.count;
-            let w = types_at(out, d - 1, &*src, counts, first, rest, k, lead.next, n + 1);
-            let head = Head {
-                kind: lead.kind,
-                a: lead.a,
-                b: lead.b,
-                children: k,
-            };
-            seal(out, n, head, at, w)
-        }
-    }
+    end_of(types_at(out, d, &*src, counts, place, place, 1, at, n))
 }
 
 // `count` types one after the other, the first in one place and the rest in another. A type without children takes no call, and nodes with one
@@ -93,9 +82,9 @@ fn types_at(
     count: u32,
     at: usize,
     n: usize,
-) -> Walk
+) -> Series
     requires { ⌜ (length (now src) ≤ maxBytes) × (isTypePlace place ≡ true) × (isTypePlace then ≡ true) ⌝ }
-    ensures { λ r. ⌜ Walked (series (node d (now (src .entry)) counts place) (node d (now (src .entry)) counts then) count at n) n r (now (out .entry)) (now (out .exit)) ⌝ }
+    ensures { λ r. ⌜ WalkedSeries (series (node d (now (src .entry)) counts place) (node d (now (src .entry)) counts then) count at n) count n r (now (out .entry)) (now (out .exit)) ⌝ }
 {
     let mut left = count;
     let mut e = at;
@@ -106,22 +95,17 @@ fn types_at(
         let w = match open_at(src, counts, p, e, m, deep) {
             Open::Shut { refusal, at: q } => Walk::Stop { refusal, at: q },
             Open::Leaf { head, next } => childless(out, m, head, e, next),
-            Open::All { head, child, next } => {
-                let k = head.children;
-                if k == 1 {
-                    childless(out, m, head, e, next);
-                    e = next;
-                    m += 1;
-                    p = child;
-                    deep -= 1;
-                    continue;
-                }
-                let sub = types_at(out, deep - 1, &*src, counts, child, child, k, next, m + 1);
-                seal(out, m, head, e, sub)
+            Open::One { head, child, next } => {
+                childless(out, m, head, e, next);
+                e = next;
+                m += 1;
+                p = child;
+                deep -= 1;
+                continue;
             }
-            Open::Signature { head, child, next } => {
-                let sub = signature_at(out, deep - 1, &*src, counts, child, next, m + 1);
-                seal(out, m, head, e, sub)
+            Open::List { head, next } => list_at(out, deep - 1, &*src, counts, head, next, e, m),
+            Open::FnPtr { head, next } => {
+                fn_ptr_at(out, deep - 1, &*src, counts, head, next, e, m)
             }
             Open::Array { kind } => array_at(out, deep - 1, &*src, counts, kind, e, m),
         };
@@ -133,11 +117,93 @@ fn types_at(
                 p = then;
                 deep = d;
             }
-            Walk::Stop { refusal, at: q } => return Walk::Stop { refusal, at: q },
+            Walk::Stop { refusal, at: q } => return Series::Stop { refusal, at: q },
         }
         left -= 1;
     }
-    Walk::Next { at: e, node: m }
+    Series::Next {
+        at: e,
+        node: m,
+        items: count - left,
+    }
+}
+
+// A node with its head's number of children, each a Type, the first at `next`. The children have d levels left.
+fn list_at(
+    out: &mut [u32],
+    d: usize,
+    src: &[u8],
+    counts: Counts,
+    head: Head,
+    next: usize,
+    at: usize,
+    n: usize,
+) -> Walk
+    requires { ⌜ (length (now src) ≤ maxBytes) × (at < length (now src)) × (n < maxNodes) ⌝ }
+    ensures { λ r. ⌜ Walked (sealed (many (node d (now (src .entry)) counts Place.Type) (head .children) next (n + 1)) head at) n r (now (out .entry)) (now (out .exit)) ⌝ }
+{
+    let k = head.children;
+    let place = Place::Type;
+    let sub = types_at(out, d, &*src, counts, place, place, k, next, n + 1);
+    seal(out, n, head, at, end_of(sub))
+}
+
+// FNPTR, whose method is at `next` and has d levels left.
+fn fn_ptr_at(
+    out: &mut [u32],
+    d: usize,
+    src: &[u8],
+    counts: Counts,
+    head: Head,
+    next: usize,
+    at: usize,
+    n: usize,
+) -> Walk
+    requires { ⌜ (length (now src) ≤ maxBytes) × (at < length (now src)) × (n < maxNodes) ⌝ }
+    ensures { λ r. ⌜ Walked (sealed (node d (now (src .entry)) counts Place.FnPtrMethod next (n + 1)) head at) n r (now (out .entry)) (now (out .exit)) ⌝ }
+{
+    let sub = method_at(out, d, &*src, counts, next, n + 1);
+    seal(out, n, head, at, sub)
+}
+
+// The method below a FNPTR: its return type and its parameters are types again.
+fn method_at(out: &mut [u32], d: usize, src: &[u8], counts: Counts, at: usize, n: usize) -> Walk
+    requires { ⌜ length (now src) ≤ maxBytes ⌝ }
+    ensures { λ r. ⌜ Walked (node d (now (src .entry)) counts Place.FnPtrMethod at n) n r (now (out .entry)) (now (out .exit)) ⌝ }
+{
+    match fn_ptr_lead_at(src, at, n, d) {
+        Begun::Shut { refusal, at: q } => Walk::Stop { refusal, at: q },
+        Begun::Go { lead } => {
+            let first = lead.first;
+            let rest = lead.rest;
+            let k = lead.count;
+            let types = types_at(out, d - 1, &*src, counts, first, rest, k, lead.next, n + 1);
+            seal_types(out, n, lead, at, types)
+        }
+    }
+}
+
+// The record of a signature whose types are read, which says how many they are.
+fn seal_types(out: &mut [u32], n: usize, lead: Lead, at: usize, types: Series) -> Walk
+    requires { ⌜ (n < maxNodes) × (at ≤ maxBytes) × smallOf (endOf types) ⌝ }
+    ensures { λ r. ⌜ Sealed (endOf types) n (headOf (lead .kind) (lead .a) (lead .b) (itemsOf types)) at r (now (out .entry)) (now (out .exit)) ⌝ }
+{
+    match types {
+        Series::Next {
+            at: e,
+            node: m,
+            items,
+        } => {
+            let head = Head {
+                kind: lead.kind,
+                a: lead.a,
+                b: lead.b,
+                children: items,
+            };
+            seal(out, n, head, at, Walk::Next { at: e, node: m })
+        }
+        Series::Stop { refusal, at: q } => Walk::Stop { refusal, at: q },
+    }
 }
 
 // An array: its type, then its shape. The children have d levels left.
@@ -169,6 +235,24 @@ fn array_at(
     }
 }
 
+// A root that is no type: a field, locals, a property or a method.
+fn signature_at(out: &mut [u32], src: &[u8], counts: Counts, place: Place) -> Walk
+    requires { ⌜ (length (now src) ≤ maxBytes) × (isTypePlace place ≡ false) ⌝ }
+    ensures { λ r. ⌜ Walked (node maxDepth (now (src .entry)) counts place 0 0) 0 r (now (out .entry)) (now (out .exit)) ⌝ }
+{
+    match lead_at(src, place, 0, 0, MAX_DEPTH) {
+        Begun::Shut { refusal, at: q } => Walk::Stop { refusal, at: q },
+        Begun::Go { lead } => {
+            let first = lead.first;
+            let rest = lead.rest;
+            let k = lead.count;
+            let d = MAX_DEPTH - 1;
+            let types = types_at(out, d, &*src, counts, first, rest, k, lead.next, 1);
+            seal_types(out, 0, lead, 0, types)
+        }
+    }
+}
+
 // The root of a kind.
 pub fn root_at(out: &mut [u32], kind: u32, counts: Counts, src: &[u8]) -> Walk
     requires { ⌜ length (now src) ≤ maxBytes ⌝ }
@@ -178,5 +262,5 @@ pub fn root_at(out: &mut [u32], kind: u32, counts: Counts, src: &[u8]) -> Walk
     if element::types::is_type_place(place) {
         return type_at(out, MAX_DEPTH, &*src, counts, place, 0, 0);
     }
-    signature_at(out, MAX_DEPTH, &*src, counts, place, 0, 0)
+    signature_at(out, &*src, counts, place)
 }

@@ -6,12 +6,15 @@ use native.Mathlib.Omega.{arith}
 use mathlib.Core.Path.{_≡_, refl, sym, ap, _∙_}
 use mathlib.Core.Bool.{true, false}
 use mathlib.Core.List.{List, _++_}
+use mathlib.Core.Logic.{_⊎_, inl, inr}
 use lib.ListN.{length, take, drop}
 use lib.Seq.{take-at}
+use lib.Dec.{T}
 use Rattle.number.specs.Number.{Bytes}
 use Rattle.number.specs.declared.token.Counts.{Counts}
 use Rattle.grammar.specs.Kinds.{maxKind}
 use Rattle.grammar.specs.Limits.{maxBytes}
+use Rattle.grammar.specs.Refusals.{writeRefusals, among}
 use Rattle.grammar.specs.Table.{flat}
 use Rattle.grammar.specs.Judge.{Out, fault, done, knownCounts, reading}
 use Rattle.grammar.specs.Derives.{HasTable}
@@ -46,6 +49,18 @@ module _ (kind : ℕ) (counts : Counts) (t : List ℕ) where
       go w (grammar.no-blob h k f) = no-blob h k f
       go w (grammar.short s h l) = short s h l
       go w (grammar.given s h l) = given s h l
+
+  -- done, or refused by a number of the list
+  pub write-refuses : (room : ℕ) → let n = answerOf (writing kind counts t room) .code in (n ≡ 0) ⊎ T (among writeRefusals n)
+  unfolding answerOf
+  write-refuses room = go _ (grammar.verdict kind counts t room)
+    where
+      go : (w : Written) → grammar.Verdict kind counts t room w → (answerOf w .code ≡ 0) ⊎ T (among writeRefusals (answerOf w .code))
+      go w (grammar.unknown-kind h) = inr tt
+      go w (grammar.too-many-rows h k) = inr tt
+      go w (grammar.no-blob h k f) = inr tt
+      go w (grammar.short s h l) = inr tt
+      go w (grammar.given s h l) = inl refl
 
   -- the bytes named are a blob's
   pub write-place : (room : ℕ) → answerOf (writing kind counts t room) .place ≤ maxBytes

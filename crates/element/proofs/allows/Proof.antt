@@ -1,6 +1,8 @@
 -- `element::allows` meets its contract. Assumes nothing.
-use mathlib.Core.Path.{sym, _∙_}
+use mathlib.Core.Path.{sym, ap, _∙_}
 use borrow.Author.Needs.{needs}
+use Rattle.element.specs.Element.{allowed}
+use Rattle.element.proofs.Runs.{unrefused}
 use Rattle.element.proofs.allows.Statement.{statement}
 use Rattle.element.proofs.allows.Tie as tie
 
@@ -10,24 +12,5 @@ allows-spec =
     (tie.spec
     (λ c κs. search needs)
     (λ c. search needs)
-    (λ c. search needs)
-    (λ c. search needs)
-    (λ c. search needs)
-    (λ c. search needs)
-    (λ c. search needs)
-    (λ c. search needs)
-    (λ c. search needs)
-    (λ c. search needs)
-    (λ c. search needs)
-    (λ c. search needs)
-    (λ c. rw (sym (c .before .before .form-of .ensures) ∙ c .enum-told .given .1))
-    (λ c. rw (sym (c .before .before .form-of .ensures) ∙ c .enum-told2 .given .1))
-    (λ c. rw (sym (c .before .before .form-of .ensures) ∙ c .enum-told3 .given .1))
-    (λ c. rw (sym (c .before .before .form-of .ensures) ∙ c .enum-told4 .given .1))
-    (λ c. rw (sym (c .before .before .form-of .ensures) ∙ c .enum-told5 .given .1))
-    (λ c. rw (sym (c .before .before .form-of .ensures) ∙ c .enum-told6 .given .1))
-    (λ c. rw (sym (c .before .before .form-of .ensures) ∙ c .enum-told7 .given .1))
-    (λ c. rw (sym (c .before .before .form-of .ensures) ∙ c .enum-told8 .given .1))
-    (λ c. rw (sym (c .before .before .form-of .ensures) ∙ c .enum-told9 .given .1))
-    (λ c. rw (sym (c .before .before .form-of .ensures) ∙ c .enum-told10 .given .1))
-    (λ c. rw (sym (c .before .before .form-of .ensures) ∙ c .enum-told11 .given .1)))
+    (λ c. sym (ap allowed (c .enum-told .given .1)) ∙ ap allowed (c .before .before .form-of .ensures))
+    (λ c. sym (unrefused (c .before .form-of .result) (c .match .keys2)) ∙ ap allowed (c .before .form-of .ensures)))

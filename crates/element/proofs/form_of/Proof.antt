@@ -7,7 +7,7 @@ use Rattle.element.proofs.form_of.Tie as tie
 -- the place whose entries are the lead bytes alone
 returns-9 : tie.Need-returns-9
 unfolding formOf entries
-returns-9 c = rw (c .before .enum-told9 .given .1) (c .lead-form .ensures)
+returns-9 c = rw (c .before .enum-told9 .given .1) (c .fn-ptr-method-form .ensures)
 
 pub form-of-spec : {M : Type 1} → statement M
 form-of-spec =

@@ -13,7 +13,7 @@ unfolding formOf entries
 returns-4 c =
     let b = c .before .before .args .b in
     let rest : formOf Place.MethodDefSig b ≡ lookup leads b = simp (outside 0x10 0x10 b (λ l u. omega arith), outside 0x30 0x30 b (λ l u. omega arith), outside 0x70 0x70 b (λ l u. omega arith)) in
-    c .lead-form .ensures ∙ sym rest
+    c .fn-ptr-method-form .ensures ∙ sym rest
 
 pub method-def-sig-form-spec : {M : Type 1} → statement M
 unfolding formOf entries

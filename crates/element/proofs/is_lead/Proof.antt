@@ -1,9 +1,9 @@
--- `element::lead_form` meets its contract: at a single byte the table computes, and in a range each entry holds the byte or not. Assumes nothing.
+-- `element::is_lead` meets its contract: at a single byte the table computes, and in a range each entry holds the byte or not. Assumes nothing.
 use native.Mathlib.Omega.{arith}
 use Rattle.element.specs.Element.{leads}
 use Rattle.element.proofs.Runs.{outside}
-use Rattle.element.proofs.lead_form.Statement.{statement}
-use Rattle.element.proofs.lead_form.Tie as tie
+use Rattle.element.proofs.is_lead.Statement.{statement}
+use Rattle.element.proofs.is_lead.Tie as tie
 
 returns-7 : tie.Need-returns-7
 unfolding leads
@@ -11,9 +11,9 @@ returns-7 c =
     let b = c .before .args .b in
     simp (outside 0x00 0x00 b (λ l u. omega arith), outside 0x05 0x05 b (λ l u. omega arith), outside 0x20 0x20 b (λ l u. omega arith), outside 0x25 0x25 b (λ l u. omega arith), outside 0x60 0x60 b (λ l u. omega arith), outside 0x65 0x65 b (λ l u. omega arith))
 
-pub lead-form-spec : {M : Type 1} → statement M
+pub is-lead-spec : {M : Type 1} → statement M
 unfolding leads
-lead-form-spec =
+is-lead-spec =
     tie.close
     (tie.spec
     (λ c. rw (c .match .keys1))
