@@ -10,7 +10,7 @@ pub const KEPT: u8 = 0xA5;
 pub const UNTOUCHED: u32 = 0xA5A5A5A5;
 
 // Document 01's row counts on the bench.
-pub fn bench() -> Counts {
+pub fn usual_counts() -> Counts {
     Counts {
         defs: 0,
         refs: 18,

@@ -3,7 +3,7 @@
 // that starts with `#` says what follows.
 ghost use Prim.Native.Nat.{_≤_, _<_};
 ghost use lib.ListN.{length};
-use crate::bench;
+use crate::usual_counts;
 use number::token::Counts;
 
 // Bytes that are enough for the longest case.
@@ -136,7 +136,7 @@ pub fn row_at(text: &[u8], at: usize, lent: u32, blob: &mut [u8]) -> Row
     ensures { λ r. ⌜ at < r .next ⌝ }
 {
     let end = until(text, at, b'\n');
-    let usual = bench();
+    let usual = usual_counts();
     let mut values = [0, usual.defs, usual.refs, usual.specs, lent];
     let line = &text[at..end];
     let length = decode(line, &mut values, blob);

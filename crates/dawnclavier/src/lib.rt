@@ -2,12 +2,13 @@
 ghost use mathlib.Core.Path.{_≡_};
 ghost use Prim.Native.Nat.{_/_, _≤_};
 ghost use lib.ListN.{length};
+ghost use Rattle.number.specs.Token.{rowCounts};
 ghost use Rattle.grammar.specs.Limits.{maxBytes};
 ghost use Rattle.grammar.specs.Judge.{judge, reading};
 ghost use Rattle.grammar.specs.Writer.{writing};
 ghost use Rattle.reader.specs.Answer.{answerOf, tableOf};
 ghost use Rattle.writer.specs.Written as writer;
-ghost use Rattle.dawnclavier.specs.Packed.{packOf, counts};
+ghost use Rattle.dawnclavier.specs.Packed.{packOf};
 use answer::Answer;
 use number::token::Counts;
 
@@ -27,7 +28,7 @@ pub extern "C" fn dcl_judge(
     type_specs: u32,
     blob: &[u8],
 ) -> u64
-    ensures { λ r. ⌜ r ≡ packOf (answerOf (judge kind (counts «type_defs» «type_refs» «type_specs») (now (blob .entry)))) ⌝ }
+    ensures { λ r. ⌜ r ≡ packOf (answerOf (judge kind (rowCounts «type_defs» «type_refs» «type_specs») (now (blob .entry)))) ⌝ }
 {
     let counts = Counts {
         defs: type_defs,
@@ -46,7 +47,7 @@ pub extern "C" fn dcl_read(
     blob: &[u8],
     table: &mut [u32],
 ) -> u64
-    ensures { λ r. ⌜ (r ≡ packOf (answerOf (reading kind (counts «type_defs» «type_refs» «type_specs») (now (blob .entry)) (length (now (table .entry)) / 6)))) × (now (table .exit) ≡ tableOf (reading kind (counts «type_defs» «type_refs» «type_specs») (now (blob .entry)) (length (now (table .entry)) / 6)) (now (table .entry))) ⌝ }
+    ensures { λ r. ⌜ (r ≡ packOf (answerOf (reading kind (rowCounts «type_defs» «type_refs» «type_specs») (now (blob .entry)) (length (now (table .entry)) / 6)))) × (now (table .exit) ≡ tableOf (reading kind (rowCounts «type_defs» «type_refs» «type_specs») (now (blob .entry)) (length (now (table .entry)) / 6)) (now (table .entry))) ⌝ }
 {
     let counts = Counts {
         defs: type_defs,
@@ -65,7 +66,7 @@ pub extern "C" fn dcl_write(
     table: &[u32],
     out: &mut [u8],
 ) -> u64
-    ensures { λ r. ⌜ (r ≡ packOf (writer.answerOf (writing kind (counts «type_defs» «type_refs» «type_specs») (now (table .entry)) (length (now (out .entry)))))) × (now (out .exit) ≡ writer.outputOf (writing kind (counts «type_defs» «type_refs» «type_specs») (now (table .entry)) (length (now (out .entry)))) (now (out .entry))) ⌝ }
+    ensures { λ r. ⌜ (r ≡ packOf (writer.answerOf (writing kind (rowCounts «type_defs» «type_refs» «type_specs») (now (table .entry)) (length (now (out .entry)))))) × (now (out .exit) ≡ writer.outputOf (writing kind (rowCounts «type_defs» «type_refs» «type_specs») (now (table .entry)) (length (now (out .entry)))) (now (out .entry))) ⌝ }
 {
     let counts = Counts {
         defs: type_defs,

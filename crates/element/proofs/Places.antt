@@ -2,9 +2,12 @@
 -- Assumes nothing.
 use Prim.Native.Nat.{ℕ, _≤_, _<_}
 use mathlib.Core.Path.{_≡_, refl, sym, _∙_}
-use mathlib.Core.Bool.{Bool, true, false, cond, _&&_, _||_}
+use mathlib.Core.Bool.{Bool, true, false, cond, _||_}
 use mathlib.Core.List.{List, [], _∷_}
 use mathlib.Core.Logic.{⊎-elim}
+use lib.Dec.{eqb}
+use denote.Enum.Declared.{tagOf}
+use Rattle.element.proofs.Place.{the-type}
 use Rattle.element.specs.declared.Place.{Place}
 use Rattle.element.specs.declared.Place.the-variants as Place
 use Rattle.element.specs.declared.Form.{Form}
@@ -74,9 +77,9 @@ led b e = ⊎-elim sym (λ h. unmet allowed h refl e) (one-form (Callable Place.
 pub unled : (b : ℕ) → allowed (lookup leads b) ≡ false → Refused ≡ lookup leads b
 unled b e = sym (refused-form (lookup leads b) e)
 
--- the place of FNPTR's method: the one that has lead bytes and no generic ones
+-- the place of FNPTR's method, by its tag
 abbrev pub isFnPtrMethod : Place → Bool
-isFnPtrMethod p = allowed (formOf p 0x00) && cond (allowed (formOf p 0x10)) false true
+isFnPtrMethod p = eqb (tagOf the-type p) (tagOf the-type Place.FnPtrMethod)
 
 pub fn-ptr-method : (p : Place) → isFnPtrMethod p ≡ true → p ≡ Place.FnPtrMethod
 unfolding formOf entries bare leads places

@@ -87,34 +87,34 @@ fn pair_to(out: &mut [u8], x: u32, y: u32, at: usize) -> usize
 }
 
 // METHOD or PROPERTY: the lead byte, a generic count where there is one, and ParamCount.
-fn call_to(out: &mut [u8], table: &[u32], node: Node, at: usize, n: usize) -> usize
+fn call_to(out: &mut [u8], table: &[u32], rec: Node, at: usize, n: usize) -> usize
     requires { ⌜ 6 * n + 6 ≤ length (now table) ⌝ }
-    ensures { λ r. ⌜ Spelt (frontOf callable (now (table .entry)) n node) at r (now (out .entry)) (now (out .exit)) ⌝ }
+    ensures { λ r. ⌜ Spelt (frontOf callable (now (table .entry)) n rec) at r (now (out .entry)) (now (out .exit)) ⌝ }
 {
     let count = param_count(table, n);
-    if node.a == 0 {
-        return pair_to(out, node.b, count, at);
+    if rec.a == 0 {
+        return pair_to(out, rec.b, count, at);
     }
-    let e = number_to(out, node.b, at);
-    pair_to(out, node.a, count, e)
+    let e = number_to(out, rec.b, at);
+    pair_to(out, rec.a, count, e)
 }
 
 // What record n puts before its children, or before the first of them.
-fn front_to(out: &mut [u8], table: &[u32], node: Node, at: usize, n: usize) -> usize
+fn front_to(out: &mut [u8], table: &[u32], rec: Node, at: usize, n: usize) -> usize
     requires { ⌜ 6 * n + 6 ≤ length (now table) ⌝ }
-    ensures { λ r. ⌜ Spelt (frontOf (layoutOf (node .kind)) (now (table .entry)) n node) at r (now (out .entry)) (now (out .exit)) ⌝ }
+    ensures { λ r. ⌜ Spelt (frontOf (layoutOf (rec .kind)) (now (table .entry)) n rec) at r (now (out .entry)) (now (out .exit)) ⌝ }
 {
-    let kind = node.kind;
+    let kind = rec.kind;
     match kind {
-        0x11 | 0x12 | 0x13 | 0x1E | 0x1F | 0x20 => pair_to(out, kind, node.a, at),
+        0x11 | 0x12 | 0x13 | 0x1E | 0x1F | 0x20 => pair_to(out, kind, rec.a, at),
         0x15 => {
-            let e = pair_to(out, kind, node.b, at);
-            pair_to(out, node.a, node.children, e)
+            let e = pair_to(out, kind, rec.b, at);
+            pair_to(out, rec.a, rec.children, e)
         }
-        METHOD | PROPERTY => call_to(out, &*table, node, at, n),
+        METHOD | PROPERTY => call_to(out, &*table, rec, at, n),
         FIELD => number_to(out, 0x06, at),
-        LOCALS => pair_to(out, 0x07, node.children, at),
-        SIZE | LOW => number_to(out, node.a, at),
+        LOCALS => pair_to(out, 0x07, rec.children, at),
+        SIZE | LOW => number_to(out, rec.a, at),
         _ => number_to(out, kind, at),
     }
 }
@@ -131,18 +131,18 @@ fn part_at(out: &mut [u8], d: usize, table: &[u32], at: usize, n: usize) -> Part
     if table.len() < 6 * n + 6 {
         return Part::Stop;
     }
-    let node = grammar::record_at(table, n);
-    if node.kind == ARRAY {
-        return match array_at(out, d - 1, &*table, node, at, n) {
+    let rec = grammar::record_at(table, n);
+    if rec.kind == ARRAY {
+        return match array_at(out, d - 1, &*table, rec, at, n) {
             Emit::Next { at: e, node: m } => Part::Ends { at: e, node: m },
             Emit::Stop => Part::Stop,
         };
     }
-    let e = front_to(out, &*table, node, at, n);
+    let e = front_to(out, &*table, rec, at, n);
     if out.len() < e {
         return Part::Stop;
     }
-    let children = node.children;
+    let children = rec.children;
     if children == 0 {
         return Part::Ends { at: e, node: n + 1 };
     }
@@ -150,17 +150,17 @@ fn part_at(out: &mut [u8], d: usize, table: &[u32], at: usize, n: usize) -> Part
 }
 
 // An ARRAY: its type, then Rank, NumSizes and the sizes, then NumLoBounds and the low bounds.
-fn array_at(out: &mut [u8], d: usize, table: &[u32], node: Node, at: usize, n: usize) -> Emit
+fn array_at(out: &mut [u8], d: usize, table: &[u32], rec: Node, at: usize, n: usize) -> Emit
     requires { ⌜ n < length (now table) ⌝ }
-    ensures { λ r. ⌜ Emits (parts (emit d (now (table .entry))) (partsOf array (now (table .entry)) n node) (n + 1)) at r (now (out .entry)) (now (out .exit)) ⌝ }
+    ensures { λ r. ⌜ Emits (parts (emit d (now (table .entry))) (partsOf array (now (table .entry)) n rec) (n + 1)) at r (now (out .entry)) (now (out .exit)) ⌝ }
 {
-    let first = number_to(out, node.kind, at);
+    let first = number_to(out, rec.kind, at);
     match all_at(out, d, &*table, 1, first, n + 1) {
         Emit::Next { at: e, node: m } => {
-            let sizes = pair_to(out, node.a, node.b, e);
-            match all_at(out, d, &*table, node.b, sizes, m) {
+            let sizes = pair_to(out, rec.a, rec.b, e);
+            match all_at(out, d, &*table, rec.b, sizes, m) {
                 Emit::Next { at: e2, node: m2 } => {
-                    let lows = less(less(node.children, 1), node.b);
+                    let lows = less(less(rec.children, 1), rec.b);
                     let then = number_to(out, lows, e2);
                     all_at(out, d, &*table, lows, then, m2)
                 }

@@ -1,4 +1,4 @@
-pub mod Bench
+pub mod Starred
 pub mod Sound
 pub mod Complete
 pub mod Size

@@ -10,7 +10,7 @@ use lib.Dec.{leb, eqb}
 use borrow.Author.Tests.{leb-true, leb-false, le-leb, eqb-true, eq-eqb}
 use Rattle.number.specs.Number.{Bytes, encode}
 use Rattle.number.specs.declared.token.Counts.{Counts}
-use Rattle.number.proofs.Laws.{encode-bytes, bytes-append}
+use Rattle.number.proofs.Laws.{encode-bytes, bytes-append, no-bytes, bytes-two, bytes-front}
 use Rattle.grammar.specs.Kinds.{maxKind}
 use Rattle.grammar.specs.Limits.{maxDepth}
 use Rattle.grammar.specs.Table.{flat, recordAt}
@@ -37,16 +37,6 @@ bytes-then (wrote bs n) k h f = f bs n h
 bytes-wrote : (bs : List ℕ) (n : ℕ) → Bytes bs → AreBytes (wrote bs n)
 unfolding AreBytes
 bytes-wrote bs n h = h
-
-no-bytes : Bytes []
-no-bytes i = omega arith
-
--- two numbers, and those before something
-bytes-two : (x y : ℕ) → Bytes (encode x ++ encode y)
-bytes-two x y = bytes-append (encode x) (encode y) (encode-bytes x) (encode-bytes y)
-
-bytes-front : (x : ℕ) (bs : List ℕ) → Bytes bs → Bytes (encode x ++ bs)
-bytes-front x bs h = bytes-append (encode x) bs (encode-bytes x) h
 
 -- what stands before children
 unfoldable Fronts : List (List ℕ × ℕ) → Type 0

@@ -20,7 +20,7 @@ fn ask_five(g: Register, sets: &Sets) {
 }
 
 // Document 01's sheet, and the last row of its bench.
-fn bench(sets: &mut Sets) {
+fn worked_sheet(sets: &mut Sets) {
     let g = print::open(0, 0, 3, sets);
     let g = print::file(g, 1, b"\x0F\x20\x0A\x08", sets);
     let g = print::file(g, 2, b"\x10", sets);
@@ -193,7 +193,7 @@ fn main() {
     written(&mut sets);
     forged_rows(&mut sets);
     just_enough();
-    bench(&mut sets);
+    worked_sheet(&mut sets);
     refused(&mut sets);
     let g = rows(&mut sets);
     let g = refilings(g, &mut sets);

@@ -7,7 +7,7 @@ use lib.ListN.{length, take, drop}
 use lib.Dec.{ltb, eqb}
 use Rattle.number.specs.Checked.{checkedAt, countAt, onChecked}
 use Rattle.number.specs.Blob.{blobAt}
-use Rattle.number.specs.Token.{noCounts}
+use Rattle.number.specs.Token.{rowCounts, noCounts}
 use Rattle.number.specs.declared.checked.Checked.{Checked}
 use Rattle.number.specs.declared.token.Counts.{Counts}
 use Rattle.grammar.specs.Limits.{maxRows}
@@ -64,7 +64,7 @@ layoutOf s = cond (ltb maxSheet (length s)) (Refused maxSheet) (sectionsOf s)
 unfoldable pub countsOf : List ℕ → Layout → Counts
 countsOf s l =
     onChecked (checkedAt s (l .counts))
-    (λ defs next. onChecked (checkedAt s next) (λ refs end. record { defs = defs; refs = refs; specs = l .rows }) (λ code. noCounts)) (λ code. noCounts)
+    (λ defs next. onChecked (checkedAt s next) (λ refs end. rowCounts defs refs (l .rows)) (λ code. noCounts)) (λ code. noCounts)
 
 -- k items from an offset on, and what is made of each by its number and the offset after it
 unfoldable pub listFrom : {A : Type 0} → (ℕ → Checked) → (ℕ → ℕ → A) → ℕ → ℕ → List A

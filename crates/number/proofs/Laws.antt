@@ -187,3 +187,13 @@ encode-bytes v =
     (λ l u. rw (encode-2 v l u) (omega arith, (omega arith, tt)))
     (λ l u. rw (encode-4 v l u) (omega arith, (omega arith, (omega arith, (omega arith, tt)))))
     (λ l. rw (encode-none v l) tt))
+
+pub no-bytes : Bytes []
+no-bytes i = omega arith
+
+-- two numbers, and those before something
+pub bytes-two : (x y : ℕ) → Bytes (encode x ++ encode y)
+bytes-two x y = bytes-append (encode x) (encode y) (encode-bytes x) (encode-bytes y)
+
+pub bytes-front : (x : ℕ) (bs : List ℕ) → Bytes bs → Bytes (encode x ++ bs)
+bytes-front x bs h = bytes-append (encode x) bs (encode-bytes x) h

@@ -39,6 +39,9 @@ tokenOf tags counts c =
 unfoldable pub tokenAt : (tags : ℕ) → Counts → List ℕ → ℕ → Checked
 tokenAt tags counts s at = tokenOf tags counts (checkedAt s at)
 
+abbrev pub rowCounts : (defs refs specs : ℕ) → Counts
+rowCounts defs refs specs = record { defs = defs; refs = refs; specs = specs }
+
 -- no rows in any table
 abbrev pub noCounts : Counts
-noCounts = record { defs = 0; refs = 0; specs = 0 }
+noCounts = rowCounts 0 0 0

@@ -16,7 +16,7 @@ pub struct Head {
     pub children: u32,
 }
 
-// A node's code byte, for whose node there is room; or a refusal's number.
+// A node's code byte, allowed or not, where there is room for the node; or a refusal's number.
 pub enum Code {
     Shut { refusal: u32 },
     Byte { byte: u8 },

@@ -60,10 +60,10 @@ fn head_of(kind: u32, a: u32, b: u32, children: u32) -> Head
 }
 
 // A number or token, which stands at `from`, and no children.
-fn valued(kind: u32, number: Checked, from: usize) -> Open
-    ensures { λ r. ⌜ r ≡ valuedOf kind number from ⌝ }
+fn valued(kind: u32, read: Checked, from: usize) -> Open
+    ensures { λ r. ⌜ r ≡ valuedOf kind read from ⌝ }
 {
-    match number {
+    match read {
         Checked::Good { value, next } => Open::Leaf {
             head: head_of(kind, value, 0, 0),
             next,

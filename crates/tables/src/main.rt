@@ -1,7 +1,7 @@
 // Tables that were changed, or lent with too little room, each given to the writer: its answer and bytes are printed and held to the file stdout.
 use cases::KEPT;
-use cases::bench;
 use cases::print;
+use cases::usual_counts;
 
 fn shown(out: &[u8], code: u32, place: usize) {
     print::outcome(b"", code, place);
@@ -15,13 +15,13 @@ fn shown(out: &[u8], code: u32, place: usize) {
 
 // A table written where `out` is lent.
 fn write(kind: u32, table: &[u32], out: &mut [u8]) {
-    let answer = writer::write(kind, bench(), table, out);
+    let answer = writer::write(kind, usual_counts(), table, out);
     shown(out, answer.code, answer.place);
 }
 
 // The table of a blob, the number at the index changed.
 fn changed(table: &mut [u32], blob: &[u8], index: usize, value: u32) {
-    reader::read(0, bench(), blob, table);
+    reader::read(0, usual_counts(), blob, table);
     if index < table.len() {
         table[index] = value;
     }

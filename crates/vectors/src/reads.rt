@@ -2,7 +2,7 @@
 use crate::answers::show_rows;
 
 // Document 01's bench.
-fn bench() {
+fn worked_blobs() {
     show_rows(
         b"
 # The rows marked with a star.
@@ -335,7 +335,7 @@ fn refused_10_11() {
 }
 
 pub fn run() {
-    bench();
+    worked_blobs();
     accepted();
     refused_1_2();
     refused_3_4();

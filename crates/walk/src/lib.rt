@@ -45,6 +45,7 @@ pub enum Series {
     Stop { refusal: u32, at: usize },
 }
 
+// The same without the number.
 fn end_of(series: Series) -> Walk
     ensures { λ r. ⌜ r ≡ endOf series ⌝ }
 {

@@ -10,5 +10,5 @@ valued-spec =
     (λ c. search needs)
     (λ c κs. search needs)
     (λ c. search needs)
-    (λ c. rw (c .before .before .number .given .1, c .head-of .ensures))
-    (λ c. rw (c .before .number2 .given .1)))
+    (λ c. rw (c .before .before .read .given .1, c .head-of .ensures))
+    (λ c. rw (c .before .read2 .given .1)))

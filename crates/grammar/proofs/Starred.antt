@@ -62,6 +62,6 @@ said [] = []
 said (r ∷ rs) = r .says ∷ said rs
 
 -- every row gives what the document says
-pub bench : found rows ≡ said rows
+pub starred : found rows ≡ said rows
 unfolding judge node body many formOf entries bare leads tokenAt tokenOf rowsOf countAt countOf checkedAt checked numberAt whole value2 value4 rootOf
-bench = refl
+starred = refl
