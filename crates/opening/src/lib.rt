@@ -1,11 +1,13 @@
-// What stands before a node's children: its code byte and the numbers behind it, read without recursion. Types and signatures are read apart: the
-// walk is in the one for most nodes.
+// What a walk over a blob does without recursion: it reads what stands before a node's children, its code byte and the numbers behind it, and what
+// stands behind an array's type, and puts records into the table. Types and signatures are read apart: a walk is in the one for most nodes.
 ghost use mathlib.Core.Path.{_≡_};
 ghost use Rattle.opening.specs.Code.{crowdedOf, codeAt};
 use element::Place;
 use grammar::MAX_NODES;
 
+pub mod shape;
 pub mod signatures;
+pub mod table;
 pub mod types;
 
 // A node's own numbers: its record's, but for the offset and the index after it.
@@ -14,6 +16,12 @@ pub struct Head {
     pub a: u32,
     pub b: u32,
     pub children: u32,
+}
+
+// Where a walk goes on, with the index of the next node; or the refusal's number and offset.
+pub enum Walk {
+    Next { at: usize, node: usize },
+    Stop { refusal: u32, at: usize },
 }
 
 // A node's code byte, allowed or not, where there is room for the node; or a refusal's number.

@@ -13,8 +13,8 @@ use Rattle.grammar.specs.Judge.{Out, fault, done, bind, check, judge, reading}
 use Rattle.grammar.proofs.Sound.{Holds, holds}
 use Rattle.grammar.proofs.Bounds.{Ends, ends-judge}
 use Rattle.grammar.proofs.Refusals.{judge-refuses, refusal-byte}
-use Rattle.walk.specs.Walk.{leaves}
-use Rattle.walk.proofs.Stamp.{stamp-flat}
+use Rattle.opening.specs.Walk.{leaves}
+use Rattle.opening.proofs.Stamp.{stamp-flat}
 use Rattle.answer.specs.Answers.{answer}
 use Rattle.reader.specs.Answer.{answerOf, tableOf}
 use Rattle.reader.specs.Blob.{Judged}

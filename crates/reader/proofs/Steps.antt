@@ -11,11 +11,11 @@ use Rattle.number.specs.declared.token.Counts.{Counts}
 use Rattle.grammar.specs.Kinds.{maxKind, rootOf}
 use Rattle.grammar.specs.Limits.{maxBytes, maxDepth}
 use Rattle.grammar.specs.Judge.{Out, fault, done, bind, check, node, knownCounts, judge}
-use Rattle.walk.specs.Walk.{leaves, walkOf, Walked}
-use Rattle.walk.specs.declared.Walk.{Walk}
-use Rattle.walk.specs.declared.Walk.the-variants.{Next, Stop}
-use Rattle.walk.proofs.Stamp.{length-stamp}
-use Rattle.walk.proofs.Laws.{clash}
+use Rattle.opening.specs.Walk.{leaves, walkOf, Walked}
+use Rattle.opening.specs.declared.Walk.{Walk}
+use Rattle.opening.specs.declared.Walk.the-variants.{Next, Stop}
+use Rattle.opening.proofs.Stamp.{length-stamp}
+use Rattle.opening.proofs.Walks.{clash}
 use Rattle.answer.specs.Answers.{answer}
 use Rattle.reader.specs.Answer.{answerOf}
 use Rattle.reader.specs.Blob.{Judged}

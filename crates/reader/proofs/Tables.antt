@@ -20,9 +20,9 @@ use Rattle.grammar.proofs.Sound.{Holds, holds}
 use Rattle.grammar.proofs.Bounds.{Ends, ends-judge}
 use Rattle.grammar.proofs.Refusals.{judge-refuses, refusal-byte}
 use Rattle.grammar.proofs.Emits.{length-flat}
-use Rattle.walk.specs.Table.{stamp}
-use Rattle.walk.specs.Walk.{leaves}
-use Rattle.walk.proofs.Stamp.{stamp-flat}
+use Rattle.opening.specs.Table.{stamp}
+use Rattle.opening.specs.Walk.{leaves}
+use Rattle.opening.proofs.Stamp.{stamp-flat}
 use Rattle.reader.specs.Answer.{answerOf}
 use Rattle.reader.specs.Blob.{Judged}
 use Rattle.answer.specs.declared.Answer.{Answer}

@@ -3,7 +3,7 @@ use Prim.Native.Nat.{ℕ}
 use mathlib.Core.Path.{_≡_}
 use mathlib.Core.List.{List}
 use Rattle.grammar.specs.Judge.{Out}
-use Rattle.walk.specs.Walk.{leaves}
+use Rattle.opening.specs.Walk.{leaves}
 use Rattle.reader.specs.Answer.{answerOf}
 use Rattle.answer.specs.declared.Answer.{Answer}
 

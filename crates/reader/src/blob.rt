@@ -5,7 +5,7 @@ use answer::Answer;
 use grammar::MAX_BYTES;
 use grammar::MAX_KIND;
 use number::token::Counts;
-use walk::Walk;
+use opening::Walk;
 
 // The whole blob, with the records put into `out` where they fit: 12, 13, 1, the first fault from the left, 9.
 pub fn judge_in(out: &mut [u32], kind: u32, counts: Counts, src: &[u8]) -> Answer

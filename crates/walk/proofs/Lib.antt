@@ -1,3 +1,2 @@
-pub mod Stamp
 pub mod Laws
 pub mod Steps

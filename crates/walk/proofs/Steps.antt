@@ -6,15 +6,12 @@ use mathlib.Core.Path.{_≡_, refl, sym, ap, _∙_}
 use mathlib.Core.Bool.{true, false}
 use mathlib.Core.List.{List, [], _++_}
 use lib.ListN.{length, length-append}
-use borrow.Author.Tests.{lt-ltb, le-ltb, le-leb}
-use Rattle.number.specs.declared.checked.Checked.{Checked}
-use Rattle.number.specs.declared.checked.Checked.the-variants.{Good, Bad}
 use Rattle.number.specs.declared.token.Counts.{Counts}
 use Rattle.element.specs.Element.{isTypePlace}
 use Rattle.element.specs.declared.Place.{Place}
 use Rattle.element.specs.declared.Place.the-variants as Place
 use Rattle.grammar.specs.Limits.{maxNodes}
-use Rattle.grammar.specs.Judge.{Out, fault, done, many, bound, array, node}
+use Rattle.grammar.specs.Judge.{Out, fault, done, many, array, node}
 use Rattle.grammar.proofs.Bounds.{Ends, ends-many, ends-node}
 use Rattle.grammar.proofs.Sound.{Holds, stopped, holds, holds-bind}
 use Rattle.opening.specs.Open.{headOf, openAt}
@@ -27,38 +24,14 @@ use Rattle.opening.specs.declared.signatures.Begun.the-variants as Begun
 use Rattle.opening.specs.declared.types.Open.{Open}
 use Rattle.opening.specs.declared.types.Open.the-variants as Open
 use Rattle.opening.proofs.Opens.{series-same, one-series, node-open, isShut, open-begins, open-one, node-lead, lead-begins, lead-types}
-use Rattle.walk.specs.Table.{smallOf, sealsOf, Sealed}
-use Rattle.walk.specs.Walk.{walkOf, Walked, seriesOf, endOf, itemsOf, WalkedSeries}
-use Rattle.walk.specs.declared.Walk.{Walk}
-use Rattle.walk.specs.declared.Walk.the-variants.{Next, Stop}
+use Rattle.opening.specs.Table.{smallOf, sealsOf, Sealed}
+use Rattle.opening.specs.Walk.{walkOf, Walked}
+use Rattle.opening.specs.declared.Walk.{Walk}
+use Rattle.opening.specs.declared.Walk.the-variants.{Next, Stop}
+use Rattle.opening.proofs.Walks.{walked-fault, walked-is, found, still, walked-seal, walked-small}
+use Rattle.walk.specs.Series.{seriesOf, endOf, itemsOf, WalkedSeries}
 use Rattle.walk.specs.declared.Series.{Series}
 use Rattle.walk.specs.declared.Series.the-variants as Series
-use Rattle.walk.proofs.Laws.{walked-fault, walked-is, found, still, walked-seal, walked-small}
-
--- ---- bound_of
-
-module _ (kind d v next at n : ℕ) where
-  pub bound-deep : (o : List ℕ) → d ≡ 0 → Walked (bound kind d (Good v next) at n) n (Stop 6 at) o o
-  bound-deep o z = walked-fault _ n 6 at o (rw z)
-
-  pub bound-full : (o : List ℕ) → (d ≡ 0 → ⊥) → maxNodes ≤ n → Walked (bound kind d (Good v next) at n) n (Stop 10 at) o o
-  bound-full o z j = let i : 1 ≤ d = omega arith in walked-fault _ n 10 at o (rw (le-leb 1 d i, le-ltb n maxNodes j))
-
-  pub bound-done : (r : Walk) (o o₁ : List ℕ) → (d ≡ 0 → ⊥) → n < maxNodes → Sealed (Next next (n + 1)) n (headOf kind v 0 0) at r o o₁ → Walked (bound kind d (Good v next) at n) n r o o₁
-  unfolding sealed
-  bound-done r o o₁ z j q =
-      let i : 1 ≤ d = omega arith in
-      walked-is _ (sealed (done next (n + 1) []) (headOf kind v 0 0) at) n r o o₁ (rw (le-leb 1 d i, lt-ltb n maxNodes j))
-      (walked-seal _ n _ at _ r o o o₁ (still next (n + 1) (n + 1) o) q)
-
--- ---- size_at and low_at. y is what reading the number gave, and its contract says that it is x
-
-module _ (kind d at n : ℕ) (y x : Checked) (e : y ≡ x) where
-  pub bound-bad : (c : ℕ) (o : List ℕ) → y ≡ Bad c → Walked (bound kind d x at n) n (Stop c at) o o
-  bound-bad c o g = walked-fault _ n c at o (rw (sym e ∙ g))
-
-  pub bound-good : (v next : ℕ) (r : Walk) (o o₁ : List ℕ) → y ≡ Good v next → Walked (bound kind d (Good v next) at n) n r o o₁ → Walked (bound kind d x at n) n r o o₁
-  bound-good v next r o o₁ g w = walked-is _ _ n r o o₁ (ap (λ (c : Checked). bound kind d c at n) (sym e ∙ g)) w
 
 -- ---- types_at
 

@@ -13,31 +13,25 @@ ghost use Rattle.element.specs.Element.{isTypePlace};
 ghost use Rattle.element.specs.declared.Place.the-variants as Place;
 ghost use Rattle.opening.specs.Open.{headOf};
 ghost use Rattle.opening.specs.Means.{sealed, series};
-ghost use Rattle.walk.specs.Table.{smallOf, Sealed};
-ghost use Rattle.walk.specs.Walk.{Walked, WalkedSeries, endOf, itemsOf};
+ghost use Rattle.opening.specs.Table.{smallOf, Sealed};
+ghost use Rattle.opening.specs.Walk.{Walked};
+ghost use Rattle.walk.specs.Series.{WalkedSeries, endOf, itemsOf};
 use element::Place;
 use grammar::MAX_DEPTH;
 use number::token::Counts;
 use opening::Head;
+use opening::Walk;
+use opening::shape::Shape;
+use opening::shape::shape_at;
 use opening::signatures::Begun;
 use opening::signatures::Lead;
 use opening::signatures::fn_ptr_lead_at;
 use opening::signatures::lead_at;
+use opening::table::childless;
+use opening::table::close;
+use opening::table::seal;
 use opening::types::Open;
 use opening::types::open_at;
-use shape::Shape;
-use table::childless;
-use table::close;
-use table::seal;
-
-mod shape;
-mod table;
-
-// Where a walk goes on, with the index of the next node; or the refusal's number and offset.
-pub enum Walk {
-    Next { at: usize, node: usize },
-    Stop { refusal: u32, at: usize },
-}
 
 // Types one after the other: where the walk goes on, and how many they are; or as in Walk.
 pub enum Series {
@@ -221,7 +215,7 @@ fn array_at(
     ensures { λ r. ⌜ Walked (array (node d (now (src .entry))) d (now (src .entry)) counts kind at n) n r (now (out .entry)) (now (out .exit)) ⌝ }
 {
     match type_at(out, d, &*src, counts, Place::Type, at + 1, n + 1) {
-        Walk::Next { at: e, node: m } => match shape::shape_at(out, d, &*src, kind, e, m) {
+        Walk::Next { at: e, node: m } => match shape_at(out, d, &*src, kind, e, m) {
             Shape::Done {
                 head,
                 at: e2,

@@ -12,10 +12,11 @@ use Rattle.element.specs.Element.{bare, leads, entries, formOf, isTypePlace}
 use Rattle.grammar.specs.Judge.{node}
 use Rattle.grammar.proofs.Bounds.{ends-node}
 use Rattle.opening.specs.Means.{series}
-use Rattle.walk.specs.Walk.{Walked}
-use Rattle.walk.specs.declared.Walk.{Walk}
-use Rattle.walk.specs.declared.Walk.the-variants.{Next}
-use Rattle.walk.proofs.Laws.{found, walked-as, walked-length, walked-next, walked-first, walked-seal, walked-small, Pending, pending-item, pending-link, pending-end, pending-is, series-end, fewer-levels, fewer-items, array-stop, array-cut, array-small, array-done}
+use Rattle.opening.specs.Walk.{Walked}
+use Rattle.opening.specs.declared.Walk.{Walk}
+use Rattle.opening.specs.declared.Walk.the-variants.{Next}
+use Rattle.opening.proofs.Walks.{found, walked-as, walked-length, walked-next, walked-first, walked-seal, walked-small, series-end}
+use Rattle.walk.proofs.Laws.{Pending, pending-item, pending-link, pending-end, pending-is, fewer-levels, fewer-items, array-stop, array-cut, array-small, array-done}
 use Rattle.walk.proofs.Steps.{type-stop, leaf-bounds, leaf-done, one-bounds, one-node, below-bounds, list-node, fn-ptr-node, array-node, series-ended, series-stopped, list-small, list-done, one-walked, signature-stop, signature-bounds, signature-small, signature-done}
 use borrow.Fn.Kinds.{In}
 use borrow.Fn.PlainCycle.{Measures, is, falls, and}
@@ -37,14 +38,14 @@ use Rattle.walk.proofs.+array_at+fn_ptr_at+list_at+method_at+type_at+ty
 use Rattle.walk.proofs.types_at.Reads as types-at
 use Rattle.walk.proofs.types_at.Kinds as types-at-kinds
 use Rattle.walk.proofs.+array_at+fn_ptr_at+list_at+method_at+type_at+types_at.Lts-types_at as types-at-lts
+use Rattle.opening.proofs.shape.shape_at.Reads as shape-at-reads
 use Rattle.opening.proofs.signatures.fn_ptr_lead_at.Reads as fn-ptr-lead-at-reads
+use Rattle.opening.proofs.table.childless.Reads as childless-reads
+use Rattle.opening.proofs.table.close.Reads as close-reads
+use Rattle.opening.proofs.table.seal.Reads as seal-reads
 use Rattle.opening.proofs.types.open_at.Reads as open-at-reads
 use Rattle.walk.proofs.end_of.Reads as end-of-reads
 use Rattle.walk.proofs.seal_types.Reads as seal-types-reads
-use Rattle.walk.proofs.shape.shape_at.Reads as shape-at-reads
-use Rattle.walk.proofs.table.childless.Reads as childless-reads
-use Rattle.walk.proofs.table.close.Reads as close-reads
-use Rattle.walk.proofs.table.seal.Reads as seal-reads
 use Rattle.walk.proofs.+array_at+fn_ptr_at+list_at+method_at+type_at+types_at.{statement}
 use Rattle.walk.proofs.+array_at+fn_ptr_at+list_at+method_at+type_at+types_at.Tie.{close}
 

@@ -1,6 +1,6 @@
 -- `walk::end_of` meets its contract. Assumes nothing.
 use borrow.Author.Needs.{needs}
-use Rattle.walk.specs.Walk.{endOf}
+use Rattle.walk.specs.Series.{endOf}
 use Rattle.walk.proofs.end_of.Statement.{statement}
 use Rattle.walk.proofs.end_of.Tie as tie
 

@@ -1,8 +1,8 @@
 -- `walk::seal_types` meets its contract. Assumes nothing.
 use mathlib.Core.Path.{refl}
 use borrow.Author.Needs.{needs}
-use Rattle.walk.specs.Walk.{endOf, itemsOf}
-use Rattle.walk.proofs.Laws.{seal-kept}
+use Rattle.walk.specs.Series.{endOf, itemsOf}
+use Rattle.opening.proofs.Walks.{seal-kept}
 use Rattle.walk.proofs.seal_types.Statement.{statement}
 use Rattle.walk.proofs.seal_types.Tie as tie
 

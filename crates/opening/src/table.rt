@@ -2,11 +2,11 @@
 ghost use mathlib.Core.Path.{_≡_};
 ghost use Prim.Native.Nat.{_+_, _≤_, _<_};
 ghost use Rattle.grammar.specs.Limits.{maxBytes, maxNodes};
-ghost use Rattle.walk.specs.declared.Walk.the-variants as Walk;
-ghost use Rattle.walk.specs.Table.{putOf, putAfter, closeOf, smallOf, Sealed};
+ghost use Rattle.opening.specs.declared.Walk.the-variants as Walk;
+ghost use Rattle.opening.specs.Table.{putOf, putAfter, closeOf, smallOf, Sealed};
+use crate::Head;
 use crate::Walk;
 use grammar::Node;
-use opening::Head;
 
 fn size32(x: usize) -> u32
     requires { ⌜ x ≤ maxBytes ⌝ }

@@ -1,10 +1,10 @@
--- `walk::table::put` meets its contract. Assumes nothing.
+-- `opening::table::put` meets its contract. Assumes nothing.
 use borrow.Author.Needs.{needs}
 use native.Mathlib.Omega.{arith}
 use lib.ListN.{length-set}
-use Rattle.walk.proofs.Stamp.{put-stores, put-nothing}
-use Rattle.walk.proofs.table.put.Statement.{statement}
-use Rattle.walk.proofs.table.put.Tie as tie
+use Rattle.opening.proofs.Stamp.{put-stores, put-nothing}
+use Rattle.opening.proofs.table.put.Statement.{statement}
+use Rattle.opening.proofs.table.put.Tie as tie
 
 pub put-spec : {M : Type 1} → statement M
 put-spec =

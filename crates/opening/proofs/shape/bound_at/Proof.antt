@@ -1,9 +1,9 @@
--- `walk::shape::bound_at` meets its contract. Assumes nothing.
+-- `opening::shape::bound_at` meets its contract. Assumes nothing.
 use borrow.Author.Tests.{ne-eqb}
 use borrow.Author.Needs.{needs}
-use Rattle.walk.specs.Shape.{boundAt}
-use Rattle.walk.proofs.shape.bound_at.Statement.{statement}
-use Rattle.walk.proofs.shape.bound_at.Tie as tie
+use Rattle.opening.specs.Shape.{boundAt}
+use Rattle.opening.proofs.shape.bound_at.Statement.{statement}
+use Rattle.opening.proofs.shape.bound_at.Tie as tie
 
 pub bound-at-spec : {M : Type 1} → statement M
 unfolding boundAt

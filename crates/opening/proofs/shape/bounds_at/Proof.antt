@@ -1,16 +1,17 @@
--- `walk::shape::bounds_at` meets its contract. Assumes nothing.
+-- `opening::shape::bounds_at` meets its contract. Assumes nothing.
 use borrow.Author.Needs.{needs}
 use Prim.Native.Nat.{ℕ}
 use mathlib.Core.Path.{_≡_, refl, _∙_}
 use mathlib.Core.List.{List}
 use lib.ListN.{length}
 use Rattle.grammar.specs.Judge.{many}
-use Rattle.walk.specs.Walk.{Walked}
-use Rattle.walk.specs.Shape.{boundAt}
-use Rattle.walk.specs.declared.Walk.{Walk}
-use Rattle.walk.proofs.Laws.{ends-bound-at, loop-stop, loop-more, loop-end}
-use Rattle.walk.proofs.shape.bounds_at.Statement.{statement}
-use Rattle.walk.proofs.shape.bounds_at.Tie as tie
+use Rattle.opening.specs.Walk.{Walked}
+use Rattle.opening.specs.Shape.{boundAt}
+use Rattle.opening.specs.declared.Walk.{Walk}
+use Rattle.opening.proofs.Shapes.{ends-bound-at}
+use Rattle.opening.proofs.Walks.{loop-stop, loop-more, loop-end}
+use Rattle.opening.proofs.shape.bounds_at.Statement.{statement}
+use Rattle.opening.proofs.shape.bounds_at.Tie as tie
 
 abbrev Inv-loop : tie.InvT-loop
 Inv-loop out₀ d src kind count at n left₀ e₀ m₀ out left e m = (length out ≡ length out₀) × ((r : Walk) (fin : List ℕ) → Walked (many (boundAt kind d src) left e m) m r out fin → Walked (many (boundAt kind d src) count at n) n r out₀ fin)

@@ -1,4 +1,4 @@
--- `walk::table::close` meets its contract. Assumes nothing.
+-- `opening::table::close` meets its contract. Assumes nothing.
 use borrow.Author.Needs.{needs}
 use Prim.Native.Nat.{ℕ, _-_, _≤_}
 use native.Mathlib.Omega.{arith}
@@ -6,10 +6,10 @@ use mathlib.Core.Path.{_≡_, refl, sym, ap, _∙_}
 use mathlib.Core.List.{List}
 use lib.ListN.{length}
 use Rattle.grammar.specs.Limits.{maxNodes}
-use Rattle.walk.specs.Table.{closeOf}
-use Rattle.walk.proofs.Stamp.{closes-more, closes-end}
-use Rattle.walk.proofs.table.close.Statement.{statement}
-use Rattle.walk.proofs.table.close.Tie as tie
+use Rattle.opening.specs.Table.{closeOf}
+use Rattle.opening.proofs.Stamp.{closes-more, closes-end}
+use Rattle.opening.proofs.table.close.Statement.{statement}
+use Rattle.opening.proofs.table.close.Tie as tie
 
 -- what is left to correct gives the same table
 abbrev Inv-loop : tie.InvT-loop

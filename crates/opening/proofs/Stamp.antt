@@ -12,7 +12,7 @@ use lib.Seq.{sets, length-sets, sets-eq, set-set, set-comm, drop-at, take-append
 use lib.Dec.{leb}
 use Rattle.grammar.specs.Table.{entry, six, flat}
 use Rattle.grammar.specs.declared.Node.{Node}
-use Rattle.walk.specs.Table.{putOf, putAfter, closeOf, stamp}
+use Rattle.opening.specs.Table.{putOf, putAfter, closeOf, stamp}
 
 -- by the value of a test, with its equation
 pub cond-by : {X : Type 0} (P : X → Type 0) (b : Bool) {x y : X} → (b ≡ true → P x) → (b ≡ false → P y) → P (cond b x y)

@@ -1,9 +1,9 @@
--- `walk::table::put_after` meets its contract. Assumes nothing.
+-- `opening::table::put_after` meets its contract. Assumes nothing.
 use borrow.Author.Needs.{needs}
 use mathlib.Core.Path.{sym}
-use Rattle.walk.proofs.Stamp.{after-in, after-out}
-use Rattle.walk.proofs.table.put_after.Statement.{statement}
-use Rattle.walk.proofs.table.put_after.Tie as tie
+use Rattle.opening.proofs.Stamp.{after-in, after-out}
+use Rattle.opening.proofs.table.put_after.Statement.{statement}
+use Rattle.opening.proofs.table.put_after.Tie as tie
 
 pub put-after-spec : {M : Type 1} → statement M
 put-after-spec =

@@ -1,12 +1,12 @@
--- `walk::shape::low_at` meets its contract. Assumes nothing.
+-- `opening::shape::low_at` meets its contract. Assumes nothing.
 use mathlib.Core.Path.{sym, _∙_}
 use borrow.Author.Needs.{needs}
 use native.Mathlib.Omega.{arith}
 use Rattle.number.proofs.Checks.{checked-onward}
 use Rattle.grammar.specs.Table.{LOW}
-use Rattle.walk.proofs.Steps.{bound-bad, bound-good}
-use Rattle.walk.proofs.shape.low_at.Statement.{statement}
-use Rattle.walk.proofs.shape.low_at.Tie as tie
+use Rattle.opening.proofs.Shapes.{bound-bad, bound-good}
+use Rattle.opening.proofs.shape.low_at.Statement.{statement}
+use Rattle.opening.proofs.shape.low_at.Tie as tie
 
 pub low-at-spec : {M : Type 1} → statement M
 low-at-spec =

@@ -1,12 +1,12 @@
-// An array's shape: Rank, the sizes and the low bounds.
-ghost use mathlib.Core.Path.{_≡_};
+// What stands behind an array's type: Rank, the sizes and the low bounds, which give the array's own numbers.
 ghost use Prim.Native.Nat.{_≤_};
 ghost use lib.ListN.{length};
 ghost use Rattle.grammar.specs.Limits.{maxBytes, maxNodes, maxRank};
 ghost use Rattle.grammar.specs.Judge.{bound, size, low, many};
 ghost use Rattle.number.specs.declared.checked.Checked.the-variants as Checked;
-ghost use Rattle.walk.specs.Walk.{Walked};
-ghost use Rattle.walk.specs.Shape.{boundAt, lowsAt, shapeAt, Shaped};
+ghost use Rattle.opening.specs.Walk.{Walked};
+ghost use Rattle.opening.specs.Shape.{boundAt, lowsAt, shapeAt, Shaped};
+use crate::Head;
 use crate::Walk;
 use crate::table::childless;
 use grammar::LOW;
@@ -14,7 +14,8 @@ use grammar::MAX_NODES;
 use grammar::MAX_RANK;
 use grammar::SIZE;
 use number::checked::Checked;
-use opening::Head;
+use number::checked::checked_at;
+use number::checked::count_at;
 
 // What an array's shape gives: the array's own numbers and where the walk goes on, or the refusal's number and offset.
 pub enum Shape {
@@ -54,7 +55,7 @@ fn size_at(out: &mut [u32], d: usize, src: &[u8], at: usize, n: usize) -> Walk
     requires { ⌜ length (now src) ≤ maxBytes ⌝ }
     ensures { λ r. ⌜ Walked (size d (now (src .entry)) at n) n r (now (out .entry)) (now (out .exit)) ⌝ }
 {
-    match number::checked::checked_at(src, at) {
+    match checked_at(src, at) {
         Checked::Good { value, next } => bound_of(out, d, SIZE, value, next, at, n),
         Checked::Bad { refusal } => Walk::Stop { refusal, at },
     }
@@ -64,7 +65,7 @@ fn low_at(out: &mut [u32], d: usize, src: &[u8], at: usize, n: usize) -> Walk
     requires { ⌜ length (now src) ≤ maxBytes ⌝ }
     ensures { λ r. ⌜ Walked (low d (now (src .entry)) at n) n r (now (out .entry)) (now (out .exit)) ⌝ }
 {
-    match number::checked::checked_at(src, at) {
+    match checked_at(src, at) {
         Checked::Good { value, next } => bound_of(out, d, LOW, value, next, at, n),
         Checked::Bad { refusal } => Walk::Stop { refusal, at },
     }
@@ -115,11 +116,11 @@ pub fn shape_at(out: &mut [u32], d: usize, src: &[u8], kind: u32, at: usize, n: 
     requires { ⌜ (length (now src) ≤ maxBytes) × (n ≤ maxNodes) ⌝ }
     ensures { λ r. ⌜ Shaped (shapeAt d (now (src .entry)) kind at n) n r (now (out .entry)) (now (out .exit)) ⌝ }
 {
-    match number::checked::count_at(src, at, 1, MAX_RANK) {
+    match count_at(src, at, 1, MAX_RANK) {
         Checked::Good {
             value: rank,
             next: at2,
-        } => match number::checked::count_at(src, at2, 0, rank) {
+        } => match count_at(src, at2, 0, rank) {
             Checked::Good {
                 value: sizes,
                 next: at3,
@@ -147,7 +148,7 @@ fn lows_at(
     requires { ⌜ (length (now src) ≤ maxBytes) × (rank ≤ maxRank) × (sizes ≤ maxRank) × (n ≤ maxNodes) ⌝ }
     ensures { λ r. ⌜ Shaped (lowsAt d (now (src .entry)) kind rank sizes at n) n r (now (out .entry)) (now (out .exit)) ⌝ }
 {
-    match number::checked::count_at(src, at, 0, rank) {
+    match count_at(src, at, 0, rank) {
         Checked::Good { value: lows, next } => match bounds_at(out, d, &*src, LOW, lows, next, n) {
             Walk::Next { at: e, node: m } => Shape::Done {
                 head: Head {

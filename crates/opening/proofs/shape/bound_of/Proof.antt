@@ -1,8 +1,8 @@
--- `walk::shape::bound_of` meets its contract. Assumes nothing.
+-- `opening::shape::bound_of` meets its contract. Assumes nothing.
 use borrow.Author.Needs.{needs}
-use Rattle.walk.proofs.Steps.{bound-deep, bound-full, bound-done}
-use Rattle.walk.proofs.shape.bound_of.Statement.{statement}
-use Rattle.walk.proofs.shape.bound_of.Tie as tie
+use Rattle.opening.proofs.Shapes.{bound-deep, bound-full, bound-done}
+use Rattle.opening.proofs.shape.bound_of.Statement.{statement}
+use Rattle.opening.proofs.shape.bound_of.Tie as tie
 
 pub bound-of-spec : {M : Type 1} → statement M
 bound-of-spec =

@@ -9,10 +9,10 @@ use lib.Dec.{leb}
 use Rattle.grammar.specs.Limits.{maxNodes}
 use Rattle.grammar.specs.Table.{six}
 use Rattle.grammar.specs.declared.Node.{Node}
 use Rattle.opening.specs.Means.{recordOf}
 use Rattle.opening.specs.declared.Head.{Head}
-use Rattle.walk.specs.declared.Walk.{Walk}
-use Rattle.walk.specs.declared.Walk.the-variants as Walk
+use Rattle.opening.specs.declared.Walk.{Walk}
+use Rattle.opening.specs.declared.Walk.the-variants as Walk
 
 -- a record's six numbers at its index, where they fit
 unfoldable pub putOf : List ℕ → ℕ → Node → List ℕ

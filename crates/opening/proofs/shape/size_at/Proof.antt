@@ -1,12 +1,12 @@
--- `walk::shape::size_at` meets its contract. Assumes nothing.
+-- `opening::shape::size_at` meets its contract. Assumes nothing.
 use mathlib.Core.Path.{sym, _∙_}
 use borrow.Author.Needs.{needs}
 use native.Mathlib.Omega.{arith}
 use Rattle.number.proofs.Checks.{checked-onward}
 use Rattle.grammar.specs.Table.{SIZE}
-use Rattle.walk.proofs.Steps.{bound-bad, bound-good}
-use Rattle.walk.proofs.shape.size_at.Statement.{statement}
-use Rattle.walk.proofs.shape.size_at.Tie as tie
+use Rattle.opening.proofs.Shapes.{bound-bad, bound-good}
+use Rattle.opening.proofs.shape.size_at.Statement.{statement}
+use Rattle.opening.proofs.shape.size_at.Tie as tie
 
 pub size-at-spec : {M : Type 1} → statement M
 size-at-spec =

@@ -1,9 +1,9 @@
--- `walk::table::seal` meets its contract. Assumes nothing.
+-- `opening::table::seal` meets its contract. Assumes nothing.
 use borrow.Author.Needs.{needs}
 use native.Mathlib.Omega.{arith}
-use Rattle.walk.proofs.Laws.{seal-small, seal-stored, seal-kept}
-use Rattle.walk.proofs.table.seal.Statement.{statement}
-use Rattle.walk.proofs.table.seal.Tie as tie
+use Rattle.opening.proofs.Walks.{seal-small, seal-stored, seal-kept}
+use Rattle.opening.proofs.table.seal.Statement.{statement}
+use Rattle.opening.proofs.table.seal.Tie as tie
 
 pub seal-spec : {M : Type 1} → statement M
 seal-spec =
