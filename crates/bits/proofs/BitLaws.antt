@@ -15,14 +15,14 @@ use lib.Seq.{getD-set-same, getD-set-other}
 use lib.ListN.{length, getD, set, length-set}
 use lib.Dec.{eqb}
 use lib.Bits.{bitOr, or-shr, or-step}
-use Rattle.bits.specs.Bits.{bit, bitAt, putBit, clearWords}
+use Rattle.bits.specs.Bits.{wordBits, bit, bitAt, putBit, clearWords}
 
 -- ---- where a row's words stand
 
 abbrev pub Apart : ℕ → ℕ → ℕ → Type 0
 Apart d s w = (s + w ≤ d) ⊎ (d + w ≤ s)
 
-pub word-lt : {s w : ℕ} → s < 32 * w → s / 32 < w
+pub word-lt : {s w : ℕ} → s < wordBits * w → s / wordBits < w
 word-lt h = omega arith
 
 pub row-in : (n w i : ℕ) → i < n → i * w + w ≤ n * w
@@ -77,35 +77,35 @@ bit-pow k j =
     ap (λ (x : ℕ). eqb (x % 2) 1) (div-eq-of-lt (pow-lt h)) ∙ sym (ne-eqb j k (omega arith)))
 
 -- in row r the bit s is set, and each other bit is as it was
-pub at-put : (w : ℕ) (l : List ℕ) (r s q : ℕ) → r * w + s / 32 < length l → bitAt w (putBit w l r s) r q ≡ (bitAt w l r q || eqb q s)
+pub at-put : (w : ℕ) (l : List ℕ) (r s q : ℕ) → r * w + s / wordBits < length l → bitAt w (putBit w l r s) r q ≡ (bitAt w l r q || eqb q s)
 unfolding bitAt putBit
-at-put w l r s q h = by-cases (ℕ-discrete (q / 32) (s / 32))
-    (λ (e : q / 32 ≡ s / 32). rw e
-    (ap (λ (x : ℕ). bit x (q % 32)) (getD-set-same l (r * w + s / 32) _ 0 h) ∙ bit-or _ _ (q % 32)
-    ∙ ap (λ (b : Bool). bit (getD l (r * w + s / 32) 0) (q % 32) || b) (bit-pow (s % 32) (q % 32) ∙ eqb-same (q % 32) (s % 32) q s (λ z. omega arith) (λ z. ap (λ (x : ℕ). x % 32) z))))
-    (λ ne. ap (λ (x : ℕ). bit x (q % 32)) (getD-set-other l (r * w + s / 32) (r * w + q / 32) _ 0 (omega arith))
-    ∙ sym (ap (λ (b : Bool). bit (getD l (r * w + q / 32) 0) (q % 32) || b) (ne-eqb q s (λ z. ne (ap (λ (x : ℕ). x / 32) z))) ∙ or-false _))
+at-put w l r s q h = by-cases (ℕ-discrete (q / wordBits) (s / wordBits))
+    (λ (e : q / wordBits ≡ s / wordBits). rw e
+    (ap (λ (x : ℕ). bit x (q % wordBits)) (getD-set-same l (r * w + s / wordBits) _ 0 h) ∙ bit-or _ _ (q % wordBits)
+    ∙ ap (λ (b : Bool). bit (getD l (r * w + s / wordBits) 0) (q % wordBits) || b) (bit-pow (s % wordBits) (q % wordBits) ∙ eqb-same (q % wordBits) (s % wordBits) q s (λ z. omega arith) (λ z. ap (λ (x : ℕ). x % wordBits) z))))
+    (λ ne. ap (λ (x : ℕ). bit x (q % wordBits)) (getD-set-other l (r * w + s / wordBits) (r * w + q / wordBits) _ 0 (omega arith))
+    ∙ sym (ap (λ (b : Bool). bit (getD l (r * w + q / wordBits) 0) (q % wordBits) || b) (ne-eqb q s (λ z. ne (ap (λ (x : ℕ). x / wordBits) z))) ∙ or-false _))
 
 -- `1 << k` as the code has it
-pub one-shift : (k : ℕ) → k < 32 → 1 * 2 ^ k % 4294967296 ≡ 2 ^ k
+pub one-shift : (k : ℕ) → k < wordBits → 1 * 2 ^ k % 4294967296 ≡ 2 ^ k
 one-shift k h = ap (λ (x : ℕ). x % 4294967296) (one-mul (2 ^ k)) ∙ mod-eq-of-lt (pow-lt h)
 
 -- in another row nothing changes
-pub at-put-other : (w : ℕ) (l : List ℕ) (r s q t : ℕ) → (q ≡ r → ⊥) → s < 32 * w → t < 32 * w → bitAt w (putBit w l r s) q t ≡ bitAt w l q t
+pub at-put-other : (w : ℕ) (l : List ℕ) (r s q t : ℕ) → (q ≡ r → ⊥) → s < wordBits * w → t < wordBits * w → bitAt w (putBit w l r s) q t ≡ bitAt w l q t
 unfolding bitAt putBit
 at-put-other w l r s q t ne hs ht =
-    ap (λ (x : ℕ). bit x (t % 32))
-    (getD-set-other l (r * w + s / 32) (q * w + t / 32) _ 0
+    ap (λ (x : ℕ). bit x (t % wordBits))
+    (getD-set-other l (r * w + s / wordBits) (q * w + t / wordBits) _ 0
     (⊎-elim (λ a. omega arith) (λ a. omega arith) (rows-apart w q r ne)))
 
 -- a word out of row r keeps its number
-pub getD-put-out : (w : ℕ) (l : List ℕ) (r s p : ℕ) → s < 32 * w → (p < r * w) ⊎ (r * w + w ≤ p) → getD (putBit w l r s) p 0 ≡ getD l p 0
+pub getD-put-out : (w : ℕ) (l : List ℕ) (r s p : ℕ) → s < wordBits * w → (p < r * w) ⊎ (r * w + w ≤ p) → getD (putBit w l r s) p 0 ≡ getD l p 0
 unfolding putBit
-getD-put-out w l r s p hs h = getD-set-other l (r * w + s / 32) p _ 0 (⊎-elim (λ a. omega arith) (λ a. omega arith) h)
+getD-put-out w l r s p hs h = getD-set-other l (r * w + s / wordBits) p _ 0 (⊎-elim (λ a. omega arith) (λ a. omega arith) h)
 
 pub length-put : (w : ℕ) (l : List ℕ) (r s : ℕ) → length (putBit w l r s) ≡ length l
 unfolding putBit
-length-put w l r s = length-set l (r * w + s / 32) _
+length-put w l r s = length-set l (r * w + s / wordBits) _
 
 -- ---- a row emptied
 pub zero-bit : (k : ℕ) → bit 0 k ≡ false
@@ -140,20 +140,20 @@ getD-zeroed l d (suc x) y h k =
     (λ (e : y ≡ x). rw e (getD-set-same (clearWords l d x) (d + x) 0 0 (omega (arith, length-zeroed l d x))))
     (λ ne. getD-set-other (clearWords l d x) (d + x) (d + y) 0 0 (omega arith) ∙ getD-zeroed l d x y (omega arith) (omega arith))
 
-pub at-emptied : (w : ℕ) (l : List ℕ) (r s : ℕ) → r * w + w ≤ length l → s < 32 * w → bitAt w (clearWords l (r * w) w) r s ≡ false
+pub at-emptied : (w : ℕ) (l : List ℕ) (r s : ℕ) → r * w + w ≤ length l → s < wordBits * w → bitAt w (clearWords l (r * w) w) r s ≡ false
 unfolding bitAt
-at-emptied w l r s h hs = ap (λ (x : ℕ). bit x (s % 32)) (getD-zeroed l (r * w) w (s / 32) (word-lt hs) h) ∙ zero-bit (s % 32)
+at-emptied w l r s h hs = ap (λ (x : ℕ). bit x (s % wordBits)) (getD-zeroed l (r * w) w (s / wordBits) (word-lt hs) h) ∙ zero-bit (s % wordBits)
 
-pub at-emptied-other : (w : ℕ) (l : List ℕ) (r q s : ℕ) → (q ≡ r → ⊥) → s < 32 * w → bitAt w (clearWords l (r * w) w) q s ≡ bitAt w l q s
+pub at-emptied-other : (w : ℕ) (l : List ℕ) (r q s : ℕ) → (q ≡ r → ⊥) → s < wordBits * w → bitAt w (clearWords l (r * w) w) q s ≡ bitAt w l q s
 unfolding bitAt
-at-emptied-other w l r q s ne hs = ap (λ (x : ℕ). bit x (s % 32)) (getD-zeroed-out l (r * w) w (q * w + s / 32) (pos-apart w q r (s / 32) ne (word-lt hs)))
+at-emptied-other w l r q s ne hs = ap (λ (x : ℕ). bit x (s % wordBits)) (getD-zeroed-out l (r * w) w (q * w + s / wordBits) (pos-apart w q r (s / wordBits) ne (word-lt hs)))
 
 -- the first n rows emptied
-pub at-zeroed : (w n : ℕ) (l : List ℕ) (r s : ℕ) → n * w ≤ length l → r < n → s < 32 * w → bitAt w (clearWords l 0 (n * w)) r s ≡ false
+pub at-zeroed : (w n : ℕ) (l : List ℕ) (r s : ℕ) → n * w ≤ length l → r < n → s < wordBits * w → bitAt w (clearWords l 0 (n * w)) r s ≡ false
 unfolding bitAt
 at-zeroed w n l r s h hr hs =
-    let e : 0 + (r * w + s / 32) ≡ r * w + s / 32 = omega arith in
-    ap (λ (x : ℕ). bit x (s % 32))
+    let e : 0 + (r * w + s / wordBits) ≡ r * w + s / wordBits = omega arith in
+    ap (λ (x : ℕ). bit x (s % wordBits))
     (subst (λ (p : ℕ). getD (clearWords l 0 (n * w)) p 0 ≡ 0) e
-    (getD-zeroed l 0 (n * w) (r * w + s / 32) (omega (arith, row-in n w r hr, word-lt hs)) (omega arith)))
-    ∙ zero-bit (s % 32)
+    (getD-zeroed l 0 (n * w) (r * w + s / wordBits) (omega (arith, row-in n w r hr, word-lt hs)) (omega arith)))
+    ∙ zero-bit (s % wordBits)

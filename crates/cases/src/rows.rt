@@ -5,6 +5,7 @@ ghost use Prim.Native.Nat.{_≤_, _<_};
 ghost use lib.ListN.{length};
 use crate::usual_counts;
 use number::token::Counts;
+use number::token::row_counts;
 
 // Bytes that are enough for the longest case.
 pub const LONGEST: usize = 8192;
@@ -143,11 +144,7 @@ pub fn row_at(text: &[u8], at: usize, lent: u32, blob: &mut [u8]) -> Row
     Row {
         case: is_case(line),
         kind: values[0],
-        counts: Counts {
-            defs: values[1],
-            refs: values[2],
-            specs: values[3],
-        },
+        counts: row_counts(values[1], values[2], values[3]),
         lent: size(values[4]),
         length,
         next: end + 1,

@@ -7,10 +7,10 @@ ghost use Rattle.grammar.specs.Limits.{maxBytes};
 ghost use Rattle.grammar.specs.Judge.{judge, reading};
 ghost use Rattle.grammar.specs.Writer.{writing};
 ghost use Rattle.reader.specs.Answer.{answerOf, tableOf};
-ghost use Rattle.writer.specs.Written as writer;
+ghost use Rattle.answer.specs.Written as writer;
 ghost use Rattle.dawnclavier.specs.Packed.{packOf};
 use answer::Answer;
-use number::token::Counts;
+use number::token::row_counts;
 
 // The panel's number times 2^32 plus its place.
 fn pack(answer: Answer) -> u64
@@ -30,11 +30,7 @@ pub extern "C" fn dcl_judge(
 ) -> u64
     ensures { λ r. ⌜ r ≡ packOf (answerOf (judge kind (rowCounts «type_defs» «type_refs» «type_specs») (now (blob .entry)))) ⌝ }
 {
-    let counts = Counts {
-        defs: type_defs,
-        refs: type_refs,
-        specs: type_specs,
-    };
+    let counts = row_counts(type_defs, type_refs, type_specs);
     pack(reader::judge(kind, counts, blob))
 }
 
@@ -49,11 +45,7 @@ pub extern "C" fn dcl_read(
 ) -> u64
     ensures { λ r. ⌜ (r ≡ packOf (answerOf (reading kind (rowCounts «type_defs» «type_refs» «type_specs») (now (blob .entry)) (length (now (table .entry)) / 6)))) × (now (table .exit) ≡ tableOf (reading kind (rowCounts «type_defs» «type_refs» «type_specs») (now (blob .entry)) (length (now (table .entry)) / 6)) (now (table .entry))) ⌝ }
 {
-    let counts = Counts {
-        defs: type_defs,
-        refs: type_refs,
-        specs: type_specs,
-    };
+    let counts = row_counts(type_defs, type_refs, type_specs);
     pack(reader::read(kind, counts, blob, table))
 }
 
@@ -68,10 +60,6 @@ pub extern "C" fn dcl_write(
 ) -> u64
     ensures { λ r. ⌜ (r ≡ packOf (writer.answerOf (writing kind (rowCounts «type_defs» «type_refs» «type_specs») (now (table .entry)) (length (now (out .entry)))))) × (now (out .exit) ≡ writer.outputOf (writing kind (rowCounts «type_defs» «type_refs» «type_specs») (now (table .entry)) (length (now (out .entry)))) (now (out .entry))) ⌝ }
 {
-    let counts = Counts {
-        defs: type_defs,
-        refs: type_refs,
-        specs: type_specs,
-    };
+    let counts = row_counts(type_defs, type_refs, type_specs);
     pack(writer::write(kind, counts, table, out))
 }

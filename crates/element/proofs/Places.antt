@@ -2,18 +2,20 @@
 -- Assumes nothing.
 use Prim.Native.Nat.{ℕ, _≤_, _<_}
 use mathlib.Core.Path.{_≡_, refl, sym, _∙_}
-use mathlib.Core.Bool.{Bool, true, false, cond, _||_}
+use mathlib.Core.Bool.{Bool, true, false, cond, not, _||_}
 use mathlib.Core.List.{List, [], _∷_}
-use mathlib.Core.Logic.{⊎-elim}
-use lib.Dec.{eqb}
+use lib.Dec.{T, eqb}
 use denote.Enum.Declared.{tagOf}
+use mir.Val.{hasKey}
+use types.Run.{OneOf, miss}
 use Rattle.element.proofs.Place.{the-type}
+use Rattle.element.proofs.Form.{the-type as form-type}
 use Rattle.element.specs.declared.Place.{Place}
 use Rattle.element.specs.declared.Place.the-variants as Place
 use Rattle.element.specs.declared.Form.{Form}
-use Rattle.element.specs.declared.Form.the-variants.{Refused, Callable}
+use Rattle.element.specs.declared.Form.the-variants.{Refused}
 use Rattle.element.specs.Element.{bySort, nowhere, allowed, lookup, bare, leads, entries, formOf, places, isTypePlace}
-use Rattle.element.proofs.Runs.{uncut, same-run, allForms, lookup-passes, one-form, refused-form, unmet}
+use Rattle.element.proofs.Runs.{uncut, same-run, allForms, lookup-passes, uncalled, called, uncalled-form}
 
 -- a value for each place
 abbrev pub each : {A : Type 0} → (Place → A) → List Place → List A
@@ -46,6 +48,19 @@ ofTypes a f p = cond (isTypePlace p) (f p) a
 pub at-type : {A : Type 0} (a : A) (f g : Place → A) → each (ofTypes a f) places ≡ each (ofTypes a g) places → (p : Place) → isTypePlace p ≡ true → f p ≡ g p
 at-type a f g e p t = rw t at (at-place (ofTypes a f) (ofTypes a g) e p)
 
+-- a match that names all other places leaves them to `_`
+abbrev pub typeTags : List Place → List ℕ
+typeTags [] = []
+typeTags (p ∷ ps) = cond (isTypePlace p) (tagOf the-type p ∷ typeTags ps) (typeTags ps)
+
+pub left-types : (p : Place) → OneOf (typeTags places) (tagOf the-type p) → isTypePlace p ≡ true
+unfolding formOf entries bare leads places
+left-types p h = go (isTypePlace p) (λ n. miss (typeTags places) (tagOf the-type p) (rw (at-place (λ q. not (hasKey (typeTags places) (tagOf the-type q))) (λ q. not (isTypePlace q)) refl p) n) h)
+  where
+    go : (t : Bool) → (T (not t) → ⊥) → t ≡ true
+    go true n = refl
+    go false n = absurd (n tt)
+
 module _ (p : Place) (t : isTypePlace p ≡ true) where
   -- the bytes from lo up to, not including, hi have the form of the first, if no place's entries cut them
   pub type-same : (lo hi : ℕ) → each (ofTypes true (λ q. uncut (entries q) lo hi)) places ≡ each (ofTypes true (λ q. true)) places → {b : ℕ} → lo ≤ b → b < hi → formOf p lo ≡ formOf p b
@@ -69,13 +84,10 @@ module _ (p : Place) (t : isTypePlace p ≡ true) where
 
 -- ---- forms by place
 
--- what follows a lead byte, and what is none
-pub led : (b : ℕ) → allowed (lookup leads b) ≡ true → Callable Place.Param ≡ lookup leads b
-unfolding leads
-led b e = ⊎-elim sym (λ h. unmet allowed h refl e) (one-form (Callable Place.Param) leads b (refl, (refl, (refl, (refl, (refl, (refl, tt)))))))
-
-pub unled : (b : ℕ) → allowed (lookup leads b) ≡ false → Refused ≡ lookup leads b
-unled b e = sym (refused-form (lookup leads b) e)
+-- a byte below FNPTR that leads no method is refused
+pub unled : (b : ℕ) → OneOf uncalled (tagOf form-type (formOf Place.FnPtrMethod b)) → formOf Place.FnPtrMethod b ≡ Refused
+unfolding formOf entries leads
+unled b h = uncalled-form (lookup leads b) (lookup-passes called leads b refl refl) h
 
 -- the place of FNPTR's method, by its tag
 abbrev pub isFnPtrMethod : Place → Bool

@@ -14,7 +14,7 @@ use borrow.Author.Tests.{leb-true, le-leb, ltb-true, ltb-false}
 use Rattle.element.proofs.Form.{the-type}
 use Rattle.element.specs.declared.Form.{Form}
 use Rattle.element.specs.declared.Form.the-variants.{Refused, Leaf, Named, Variable, Wrap, Modified, Counted, Array, Instance, Callable, Generic}
-use Rattle.element.specs.Element.{Entry, run, allowed, within, lookup}
+use Rattle.element.specs.Element.{bySort, anywhere, nowhere, Entry, run, allowed, within, lookup}
 
 pub inside : (first last b : ℕ) → first ≤ b → b ≤ last → within first last b ≡ true
 inside first last b l u = simp (le-leb _ _ l, le-leb _ _ u)
@@ -117,16 +117,23 @@ unrefused f h = go (allowed f) refl
 pub unmet : {A X : Type 0} (test : A → Bool) {x y : A} → x ≡ y → test y ≡ false → test x ≡ true → X
 unmet test e f t = let z : _≡_ {A = ℕ} 0 1 = cc in absurd (omega arith)
 
--- a table whose entries all have one form
-abbrev pub AllAre : Form → List Entry → Type 0
-AllAre f [] = Unit {0}
-AllAre f (run first last g ∷ es) = (g ≡ f) × AllAre f es
+-- the tags of all forms but Callable
+abbrev pub uncalled : List ℕ
+uncalled = 0 ∷ 1 ∷ 2 ∷ 3 ∷ 4 ∷ 5 ∷ 6 ∷ 7 ∷ 8 ∷ 10 ∷ []
 
--- gives that form to each byte, or refuses it
-pub one-form : (f : Form) (es : List Entry) (b : ℕ) → AllAre f es → (lookup es b ≡ f) ⊎ (lookup es b ≡ Refused)
-one-form f [] b h = inr refl
-one-form f (run first last g ∷ es) b h = go (within first last b) (one-form f es b (h .1))
-  where
-    go : (t : Bool) → (lookup es b ≡ f) ⊎ (lookup es b ≡ Refused) → (cond t g (lookup es b) ≡ f) ⊎ (cond t g (lookup es b) ≡ Refused)
-    go true x = inl (h .0)
-    go false x = x
+-- where only Callable is allowed
+abbrev pub called : Form → Bool
+called f = bySort true false nowhere nowhere nowhere anywhere nowhere f
+
+pub uncalled-form : (f : Form) → called f ≡ true → OneOf uncalled (tagOf the-type f) → f ≡ Refused
+uncalled-form Refused e h = refl
+uncalled-form Leaf e h = cc
+uncalled-form Named e h = cc
+uncalled-form Variable e h = cc
+uncalled-form (Wrap p) e h = cc
+uncalled-form (Modified p) e h = cc
+uncalled-form (Counted p) e h = cc
+uncalled-form Array e h = cc
+uncalled-form Instance e h = cc
+uncalled-form (Callable p) e h = absurd (miss uncalled 9 tt h)
+uncalled-form (Generic p) e h = cc

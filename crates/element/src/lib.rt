@@ -1,6 +1,6 @@
 // The element bytes: what may follow a code byte in each place of the grammar. Each place decides the byte by one match.
 ghost use mathlib.Core.Path.{_≡_};
-ghost use Rattle.element.specs.Element.{allowed, bare, leads, lookup, formOf};
+ghost use Rattle.element.specs.Element.{allowed, bare, lookup, formOf};
 
 pub mod types;
 
@@ -70,29 +70,19 @@ fn bare_form(b: u8) -> Form
     }
 }
 
-// Whether a byte leads a method under FNPTR.
-pub fn is_lead(b: u8) -> bool
-    ensures { λ r. ⌜ r ≡ allowed (lookup leads b) ⌝ }
+// The lead bytes of a method.
+pub fn fn_ptr_method_form(b: u8) -> Form
+    ensures { λ r. ⌜ r ≡ formOf Place.FnPtrMethod b ⌝ }
 {
     match b {
-        0x00 => true,
-        0x05 => true,
-        0x20 => true,
-        0x25 => true,
-        0x60 => true,
-        0x65 => true,
-        _ => false,
+        0x00 => Form::Callable(Place::Param),
+        0x05 => Form::Callable(Place::Param),
+        0x20 => Form::Callable(Place::Param),
+        0x25 => Form::Callable(Place::Param),
+        0x60 => Form::Callable(Place::Param),
+        0x65 => Form::Callable(Place::Param),
+        _ => Form::Refused,
     }
-}
-
-// The form of the lead bytes.
-fn fn_ptr_method_form(b: u8) -> Form
-    ensures { λ r. ⌜ r ≡ lookup leads b ⌝ }
-{
-    if is_lead(b) {
-        return Form::Callable(Place::Param);
-    }
-    Form::Refused
 }
 
 fn type_form(b: u8) -> Form

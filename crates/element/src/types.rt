@@ -10,19 +10,12 @@ pub fn is_type_place(place: Place) -> bool
     ensures { λ r. ⌜ r ≡ isTypePlace place ⌝ }
 {
     match place {
-        Place::Type => true,
-        Place::Pointee => true,
-        Place::Param => true,
-        Place::RetType => true,
-        Place::Local => true,
-        Place::Pinned => true,
-        Place::TypeSpec => true,
-        Place::ModifiedSpec => true,
         Place::FnPtrMethod => false,
         Place::FieldSig => false,
         Place::LocalVarSig => false,
         Place::PropertySig => false,
         Place::MethodDefSig => false,
+        _ => true,
     }
 }
 

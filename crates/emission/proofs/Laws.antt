@@ -215,12 +215,7 @@ loop-end item (suc k) e m o h i = absurd (omega arith)
 
 -- the last of a loop is that one
 pub last-one : (item : ℕ → Emitted) (left m e : ℕ) (r : Emit) (o o₁ : List ℕ) → left ≡ 1 → Emits (item m) e r o o₁ → Emits (times item left m) e r o o₁
-unfolding times
-last-one item left m e r o o₁ h x = rw h (emits-is _ _ e r o o₁ (go (item m)) x)
-  where
-    go : (q : Emitted) → andThen q (λ bs n₁. andThen (wrote [] n₁) (λ cs n₂. wrote (bs ++ cs) n₂)) ≡ q
-    go torn = refl
-    go (wrote bs n) = ap (λ (l : List ℕ). wrote l n) (append-nil bs)
+last-one item left m e r o o₁ h x = rw h (emits-is _ _ e r o o₁ (times-one item m) x)
 
 -- a record's part as a match found it
 module _ (d : ℕ) (t : List ℕ) (n at : ℕ) (y : Part) (o o₁ : List ℕ) where

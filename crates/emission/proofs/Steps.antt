@@ -4,12 +4,13 @@ use Prim.Native.Nat.{ℕ, zero, suc, _+_, _-_, _*_, _/_, _≤_, _<_}
 use native.Mathlib.Omega.{arith}
 use mathlib.Core.Path.{_≡_, refl, sym, ap, subst, _∙_}
 use mathlib.Core.Bool.{Bool, true, false, cond}
+use mathlib.Core.Logic.{_⊎_, inl, inr}
 use mathlib.Core.List.{List, [], _∷_, _++_, append-assoc, append-nil}
 use lib.ListN.{length}
 use lib.Dec.{leb, eqb}
 use borrow.Author.Tests.{leb-false, eqb-true, eqb-false, le-leb, lt-leb, eq-eqb, ne-eqb}
 use Rattle.number.specs.Number.{encode}
-use Rattle.grammar.specs.Table.{recordAt}
+use Rattle.grammar.specs.Table.{METHOD, FIELD, LOCALS, PROPERTY, SIZE, LOW, recordAt}
 use Rattle.grammar.specs.Emit.{Layout, plain, array, callable, layouts, layoutIn, layoutOf, lowsOf, paramCount, partsOf, Emitted, torn, wrote, andThen, times, parts, emit}
 use Rattle.grammar.specs.declared.Node.{Node}
 use Rattle.emission.specs.Emission.{frontOf, Spelt, followed, resultOf, Emits}
@@ -44,15 +45,11 @@ module _ (t : List ℕ) (n : ℕ) (r : Node) where
   front-three vs j x y z h i =
       either vs j (r .kind) x (λ a. either vs (j + 1) (r .kind) y (λ b. let e : r .kind ≡ j + 2 = omega arith in subst (Front vs) (sym e) z))
 
-  pub front-bound : 0x100 ≤ r .kind → r .kind < 0x106 → (r .kind ≡ 0x100 → ⊥) → (r .kind ≡ 0x101 → ⊥) → (r .kind ≡ 0x102 → ⊥) → (r .kind ≡ 0x103 → ⊥) → Front (encode (r .a)) (r .kind)
-  unfolding partsOf layoutOf
-  front-bound h i a b c d = either (encode (r .a)) 0x104 (r .kind) refl (λ f. let e : r .kind ≡ 0x105 = omega arith in rw e)
-
   -- a kind that has no layout of its own, or is an ARRAY's
-  pub front-plain : (r .kind ≡ 0x15 → ⊥) → (0x11 ≤ r .kind → r .kind < 0x14 → ⊥) × (0x1E ≤ r .kind → r .kind < 0x21 → ⊥) × (0x100 ≤ r .kind → r .kind < 0x106 → ⊥)
-      → Front (encode (r .kind)) (r .kind)
+  pub front-plain : (r .kind ≡ 0x15 → ⊥) → ((r .kind ≡ METHOD) ⊎ (r .kind ≡ PROPERTY) → ⊥) → (r .kind ≡ FIELD → ⊥) → (r .kind ≡ LOCALS → ⊥) → (r .kind ≡ SIZE → ⊥) → (r .kind ≡ LOW → ⊥)
+      → (0x11 ≤ r .kind → r .kind < 0x14 → ⊥) × (0x1E ≤ r .kind → r .kind < 0x21 → ⊥) → Front (encode (r .kind)) (r .kind)
   unfolding partsOf layoutOf
-  front-plain a (f, g, h) =
+  front-plain i m fd ls sz lw (f, g) =
       rw (
         ne-eqb (r .kind) 0x11 (λ e. f (omega arith) (omega arith)),
         ne-eqb (r .kind) 0x12 (λ e. f (omega arith) (omega arith)),
@@ -60,13 +57,13 @@ module _ (t : List ℕ) (n : ℕ) (r : Node) where
         ne-eqb (r .kind) 0x1E (λ e. g (omega arith) (omega arith)),
         ne-eqb (r .kind) 0x1F (λ e. g (omega arith) (omega arith)),
         ne-eqb (r .kind) 0x20 (λ e. g (omega arith) (omega arith)),
-        ne-eqb (r .kind) 0x15 a,
-        ne-eqb (r .kind) 0x100 (λ e. h (omega arith) (omega arith)),
-        ne-eqb (r .kind) 0x101 (λ e. h (omega arith) (omega arith)),
-        ne-eqb (r .kind) 0x102 (λ e. h (omega arith) (omega arith)),
-        ne-eqb (r .kind) 0x103 (λ e. h (omega arith) (omega arith)),
-        ne-eqb (r .kind) 0x104 (λ e. h (omega arith) (omega arith)),
-        ne-eqb (r .kind) 0x105 (λ e. h (omega arith) (omega arith)),
+        ne-eqb (r .kind) 0x15 i,
+        ne-eqb (r .kind) METHOD (λ e. m (inl e)),
+        ne-eqb (r .kind) FIELD fd,
+        ne-eqb (r .kind) LOCALS ls,
+        ne-eqb (r .kind) PROPERTY (λ e. m (inr e)),
+        ne-eqb (r .kind) SIZE sz,
+        ne-eqb (r .kind) LOW lw,
       )
       (go (eqb (r .kind) 0x14))
     where
@@ -78,11 +75,11 @@ module _ (t : List ℕ) (n : ℕ) (r : Node) where
   unfolding partsOf layoutOf
   front-instance = append-assoc (encode (r .kind)) (encode (r .b)) (encode (r .a) ++ encode (r .children))
 
-  pub front-field : Front (encode 0x06) 0x101
+  pub front-field : Front (encode 0x06) FIELD
   unfolding partsOf layoutOf encode
   front-field = refl
 
-  pub front-locals : Front (encode 0x07 ++ encode (r .children)) 0x102
+  pub front-locals : Front (encode 0x07 ++ encode (r .children)) LOCALS
   unfolding partsOf layoutOf encode
   front-locals = refl
 

@@ -46,7 +46,7 @@ fn param_count(table: &[u32], n: usize) -> u32
     requires { ⌜ 6 * n + 6 ≤ length (now table) ⌝ }
     ensures { λ r. ⌜ r ≡ paramCount (now (table .entry)) n ⌝ }
 {
-    less(table[6 * n + 3], 1)
+    less(grammar::record_at(table, n).children, 1)
 }
 
 // A number of one byte, as `number_to` puts it.
@@ -114,7 +114,8 @@ fn front_to(out: &mut [u8], table: &[u32], rec: Node, at: usize, n: usize) -> us
         METHOD | PROPERTY => call_to(out, &*table, rec, at, n),
         FIELD => number_to(out, 0x06, at),
         LOCALS => pair_to(out, 0x07, rec.children, at),
-        SIZE | LOW => number_to(out, rec.a, at),
+        SIZE => number_to(out, rec.a, at),
+        LOW => number_to(out, rec.a, at),
         _ => number_to(out, kind, at),
     }
 }

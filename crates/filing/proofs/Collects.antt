@@ -13,7 +13,7 @@ use native.Mathlib.Nat.{le-refl}
 use lib.ListN.{length, getD, List·getD-append}
 use lib.Dec.{leb, eqb}
 use borrow.Author.Tests.{eqb-true, eqb-false, eq-eqb, ne-eqb, leb-true, le-leb}
-use Rattle.grammar.specs.Table.{six, flat}
+use Rattle.grammar.specs.Table.{isModifier, isModifierOf, six, flat}
 use Rattle.grammar.specs.Judge.{Out, fault, done}
 use Rattle.grammar.specs.declared.Node.{Node}
 use Rattle.grammar.proofs.Sound.{Holds, holds}
@@ -21,10 +21,10 @@ use Rattle.grammar.proofs.Bounds.{Ends}
 use Rattle.grammar.proofs.Emits.{length-flat}
 use Rattle.answer.specs.Size.{maxSize, words}
 use Rattle.bits.specs.Bits.{bitAt, putBit, clearWords}
-use Rattle.standing.specs.Standing.{any}
+use Rattle.bits.specs.Any.{any}
 use Rattle.bits.proofs.BitLaws.{at-put, at-put-other, getD-put-out, length-put, length-zeroed, getD-zeroed-out, at-emptied, at-emptied-other, eqb-same}
-use Rattle.standing.proofs.Standings.{any-cong}
-use Rattle.filing.specs.Outcome.{isModifier, isModifierOf, has, namesRow}
+use Rattle.bits.proofs.Any.{any-cong, any-shift}
+use Rattle.filing.specs.Outcome.{has, namesRow}
 use Rattle.filing.specs.Named.{rowNamed, collectOf, namedBy}
 
 cond-le : (b : Bool) (x n : ℕ) → leb x n ≡ b → cond b x 0 ≤ n
@@ -159,11 +159,6 @@ named-tail r x k =
     let e : 6 * suc k ≡ suc (suc (suc (suc (suc (suc (6 * k)))))) = omega arith in
     let f : 6 * suc k + 1 ≡ suc (suc (suc (suc (suc (suc (6 * k + 1)))))) = omega arith in
     rw (f, e)
-
-any-shift : (n : ℕ) (p : ℕ → Bool) → any (suc n) p ≡ (p 0 || any n (λ k. p (suc k)))
-unfolding any
-any-shift zero p = sym (or-false (p 0))
-any-shift (suc n) p = rw (any-shift n p) (or-assoc (p 0) (any n (λ k. p (suc k))) (p (suc n)))
 
 -- some record of the flat table names row s + 1
 any-flat : (rs : List Node) (s : ℕ) → s < maxSize → any (length rs) (λ k. eqb (rowNamed (flat rs) k) (s + 1)) ≡ has (isModifierOf (s + 1)) rs

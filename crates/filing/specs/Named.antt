@@ -3,17 +3,16 @@ use Prim.Native.Nat.{ℕ, zero, suc, _-_}
 use mathlib.Core.Bool.{cond}
 use mathlib.Core.List.{List}
 use lib.Dec.{leb, eqb}
-use Rattle.number.specs.Token.{tagOf, rowOf}
+use Rattle.number.specs.Token.{tagOf, rowOf, typeSpecTag}
 use Rattle.answer.specs.Size.{maxSize, words}
 use Rattle.bits.specs.Bits.{putBit, emptied}
-use Rattle.grammar.specs.Table.{flat, recordAt}
+use Rattle.grammar.specs.Table.{isModifier, flat, recordAt}
 use Rattle.grammar.specs.Judge.{Out, fault, done}
 use Rattle.grammar.specs.declared.Node.{Node}
-use Rattle.filing.specs.Outcome.{isModifier}
 
--- the row that a record names: 0 unless it is a modifier whose token has the tag 2 and a row that a register may have
+-- the row that a record names: 0 unless it is a modifier whose token has TypeSpec's tag and a row that a register may have
 abbrev pub namedIn : Node → ℕ
-namedIn r = cond (isModifier (r .kind)) (cond (eqb (tagOf (r .a)) 2) (cond (leb (rowOf (r .a)) maxSize) (rowOf (r .a)) 0) 0) 0
+namedIn r = cond (isModifier (r .kind)) (cond (eqb (tagOf (r .a)) typeSpecTag) (cond (leb (rowOf (r .a)) maxSize) (rowOf (r .a)) 0) 0) 0
 
 -- .. and that record k of a flat table names
 unfoldable pub rowNamed : List ℕ → ℕ → ℕ

@@ -1,11 +1,11 @@
 -- Document 01, "The register": what judging a blob says of its row. A row's outcome is `none` while it was never filed, and else what the
 -- grammar's judge gives for the blob last filed, as kind 0.
-use Prim.Native.Nat.{ℕ, _+_, _*_}
-use mathlib.Core.Bool.{Bool, false, _||_, _&&_}
+use Prim.Native.Nat.{ℕ}
+use mathlib.Core.Bool.{Bool, false, _||_}
 use mathlib.Core.List.{List, [], _∷_}
 use mathlib.Core.Option.{Option, none, some}
-use lib.Dec.{eqb}
 use Rattle.number.specs.declared.token.Counts.{Counts}
+use Rattle.grammar.specs.Table.{isModifierOf}
 use Rattle.grammar.specs.Judge.{Out, fault, done, judge}
 use Rattle.grammar.specs.declared.Node.{Node}
 
@@ -29,14 +29,6 @@ abbrev pub placeOf : Option Out → ℕ
 placeOf none = 0
 placeOf (some (fault code place)) = place
 placeOf (some (done at n rs)) = 0
-
--- "Mod: 1F or 20": such a node's kind
-abbrev pub isModifier : ℕ → Bool
-isModifier kind = eqb kind 0x1F || eqb kind 0x20
-
--- "a Mod .. has the token of TypeSpec row s", which is "row times 4 plus tag", tag 2
-abbrev pub isModifierOf : ℕ → Node → Bool
-isModifierOf s r = isModifier (r .kind) && eqb (r .a) (4 * s + 2)
 
 -- some record of the list is so
 unfoldable pub has : (Node → Bool) → List Node → Bool

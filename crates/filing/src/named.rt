@@ -2,23 +2,13 @@
 ghost use mathlib.Core.Path.{_≡_};
 ghost use Prim.Native.Nat.{_+_, _*_, _≤_};
 ghost use lib.ListN.{length};
-ghost use Rattle.filing.specs.Outcome.{isModifier};
 ghost use Rattle.answer.specs.Size.{words};
 ghost use Rattle.filing.specs.Named.{rowNamed, collectOf};
 use answer::MAX_SIZE;
 use answer::WORDS;
+use number::token::TYPE_SPEC_TAG;
 use number::token::row_of;
 use number::token::tag_of;
-
-// CMOD_REQD or CMOD_OPT.
-fn is_modifier(kind: u32) -> bool
-    ensures { λ r. ⌜ r ≡ isModifier kind ⌝ }
-{
-    if kind == 0x1F {
-        return true;
-    }
-    kind == 0x20
-}
 
 // The TypeSpec row that record k names, or 0.
 fn row_named(t: &[u32], k: usize) -> usize
@@ -26,9 +16,9 @@ fn row_named(t: &[u32], k: usize) -> usize
     ensures { λ r. ⌜ r ≡ rowNamed (now (t .entry)) k ⌝ }
 {
     let node = grammar::record_at(t, k);
-    if is_modifier(node.kind) {
+    if grammar::is_modifier(node.kind) {
         let a = node.a;
-        if tag_of(a) == 2 {
+        if tag_of(a) == TYPE_SPEC_TAG {
             let row = row_of(a) as usize;
             if row <= MAX_SIZE {
                 return row;

@@ -8,22 +8,23 @@ use mathlib.Core.List.{List, _∷_, _++_}
 use lib.ListN.{length}
 use lib.Dec.{ltb, leb}
 use borrow.Author.Tests.{lt-ltb, le-leb}
-use Rattle.number.specs.Number.{encode, maxNumber}
-use Rattle.number.specs.Checked.{checked, checkedAt, countOf, countAt}
-use Rattle.number.specs.Token.{tagOf, rowOf, rowsOf, typeTags, modTags, tokenOf, tokenAt}
+use Rattle.number.specs.Number.{maxNumber}
+use Rattle.number.specs.Checked.{checkedAt, countAt}
+use Rattle.number.specs.Token.{typeTags, modTags, tokenAt}
 use Rattle.number.specs.declared.checked.Checked.{Checked}
 use Rattle.number.specs.declared.checked.Checked.the-variants.{Good}
 use Rattle.number.specs.declared.token.Counts.{Counts}
-use Rattle.element.specs.Element.{allowed, within}
+use Rattle.element.specs.Element.{allowed}
 use Rattle.element.specs.declared.Place.{Place}
 use Rattle.element.specs.declared.Place.the-variants as Place
 use Rattle.element.specs.declared.Form.{Form}
 use Rattle.grammar.specs.Limits.{maxNodes, maxRank}
 use Rattle.grammar.specs.Table.{entry, kindOf, SIZE, LOW}
-use Rattle.grammar.specs.Judge.{Out, done, bind, check, numbered, number, many, bound, size, low, Reader, callable, body, opened, node}
+use Rattle.grammar.specs.Judge.{Out, done, bind, check, numbered, many, bound, size, low, Reader, callable, body, opened, node}
 use Rattle.grammar.specs.Derives.{Span, Numeral, Token, Many, none, more, Bound, bounded, Size, Low, Code, parameters, Call, call, Step, leaf, named, variable, wrap, modified, counted, array, inst, method, generic, Derives}
 use Rattle.grammar.specs.declared.Node.{Node}
-use Rattle.number.proofs.Laws.{encoded}
+use Rattle.number.proofs.Checks.{count-in, token-in}
+use Rattle.number.proofs.Blobs.{reads}
 use Rattle.number.proofs.Stands.{Stands, split, moved, stands-length}
 
 -- an outcome is this one, and it ends where the bytes end
@@ -48,25 +49,21 @@ module _ (s : List ℕ) where
     pub run : {at n at′ n′ z : ℕ} {bs : List ℕ} {rs : List Node} → X at n at′ n′ bs rs → Stands s at bs z → Meets (item at n) at′ n′ rs z
 
   at-numeral : {v a z : ℕ} {bs : List ℕ} {m : ℕ} → Numeral v a z bs → Stands s a bs m → (checkedAt s a ≡ Good v z) × (m ≡ z)
-  unfolding checkedAt checked
   at-numeral {v} {a} {z} {bs} {m} w h =
       let e : m ≡ z = stands-length h ∙ sym (w .ends) in
-      let k : Stands s a (encode v) z = rw (← w .written, ← e) h in
-      (rw (encoded s a v z (w .small) k), e)
+      (reads s a v z (w .small) (rw (← w .written, ← e) h), e)
 
   at-token : {t a z : ℕ} {bs : List ℕ} {m : ℕ} (tags : ℕ) (counts : Counts) → Numeral t a z bs → Token tags counts t → Stands s a bs m
       → (tokenAt tags counts s a ≡ Good t z) × (m ≡ z)
-  unfolding tokenAt tokenOf
-  at-token {t} tags counts w k h =
+  at-token {a = a} tags counts w k h =
       let e = at-numeral w h in
-      (rw (e .0, lt-ltb (tagOf t) tags (k .tag), le-leb 1 (rowOf t) (k .positive), le-leb (rowOf t) (rowsOf counts (tagOf t)) (k .within)), e .1)
+      (sym (token-in s a refl tags counts (e .0) refl refl refl (k .tag) (λ z. omega (arith, k .positive)) (k .within)), e .1)
 
   at-count : {v a z : ℕ} {bs : List ℕ} {m : ℕ} (low high : ℕ) → Numeral v a z bs → low ≤ v → v ≤ high → Stands s a bs m
       → (countAt low high s a ≡ Good v z) × (m ≡ z)
-  unfolding countAt countOf
-  at-count {v} low high w l u h =
+  at-count {a = a} low high w l u h =
       let e = at-numeral w h in
-      (rw (e .0, le-leb low v l, le-leb v high u), e .1)
+      (sym (count-in s a refl low high (e .0) l u), e .1)
 
   most : {v a z : ℕ} {bs : List ℕ} → Numeral v a z bs → v ≤ maxNumber
   most w = omega (arith, w .small)
@@ -95,21 +92,6 @@ module _ (s : List ℕ) where
         let r = g (moved (e .1) (q .2)) in
         record { gives = rw (e .0) (r .gives); ends = r .ends }
 
-    number-last : {v a a₁ : ℕ} {xs : List ℕ} (k : ℕ → ℕ → Out) → Numeral v a a₁ xs → Stands s a xs z
-        → (z ≡ a₁ → Meets (k v a₁) a′ n′ rs z) → Meets (number s a k) a′ n′ rs z
-    number-last k w h f =
-        let e = at-numeral w h in
-        let r = f (e .1) in
-        record { gives = rw (e .0) (r .gives); ends = r .ends }
-
-    number-front : {v a a₁ : ℕ} {xs : List ℕ} (ys : List ℕ) (k : ℕ → ℕ → Out) → Numeral v a a₁ xs → Stands s a (xs ++ ys) z
-        → (Stands s a₁ ys z → Meets (k v a₁) a′ n′ rs z) → Meets (number s a k) a′ n′ rs z
-    number-front {xs} ys k w h g =
-        let q = split xs ys h in
-        let e = at-numeral w (q .1) in
-        let r = g (moved (e .1) (q .2)) in
-        record { gives = rw (e .0) (r .gives); ends = r .ends }
-
   many-back : (X : Span) (item : ℕ → ℕ → Out) → Reads X item → {k at n at′ n′ z : ℕ} {bs : List ℕ} {rs : List Node}
       → Many X k at n at′ n′ bs rs → Stands s at bs z → Meets (many item k at n) at′ n′ rs z
   unfolding many
@@ -121,7 +103,7 @@ module _ (s : List ℕ) where
   bound-back : (kind d : ℕ) {at n at′ n′ z : ℕ} {bs : List ℕ} {rs : List Node}
       → Bound Numeral kind d at n at′ n′ bs rs → Stands s at bs z → Meets (bound kind d (checkedAt s at) at n) at′ n′ rs z
   bound-back kind d (bounded {n = n} l m w) h =
-      number-last _ w h
+      numbered-last _ _ _ (at-numeral w h)
       (λ e. check-pass (leb 1 d) 6 _ _ (le-leb _ _ l)
       (check-pass (ltb n maxNodes) 10 _ _ (lt-ltb _ _ m) (record { gives = refl; ends = e })))
 
@@ -134,7 +116,7 @@ module _ (s : List ℕ) where
         → Call R counts p k at n at′ n′ bs ts → Stands s at bs z
         → Meets (callable read s counts p kind g b start index at) at′ n′ (entry kind g b (k + 1) start n′ ∷ ts) z
     call-back counts p kind g b start index e (call {c} {next = next} {at₁} {n₁} {cb = cb} {bs = bs} {ps = ps} w x (parameters r)) h =
-        number-front (bs ++ ps) _ w h
+        numbered-front cb (bs ++ ps) _ _ (λ m u. at-numeral w u) h
         (λ h₁. rw e (bind-front bs ps (read counts Place.RetType next _) _ (λ m u. below counts Place.RetType .run x u) h₁
         (λ h₂. bind-last (many (read counts p) c at₁ n₁) _ (many-back (R counts p) (read counts p) (below counts p) r h₂)
         (λ e₂. record { gives = refl; ends = e₂ }))))
@@ -158,7 +140,7 @@ module _ (s : List ℕ) where
         enter d counts c refl h
         (λ h₁. numbered-last _ _ _ (at-token typeTags counts w k h₁) (λ e. record { gives = refl; ends = e }))
     step-back d counts (variable c w) h =
-        enter d counts c refl h (λ h₁. number-last _ w h₁ (λ e. record { gives = refl; ends = e }))
+        enter d counts c refl h (λ h₁. numbered-last _ _ _ (at-numeral w h₁) (λ e. record { gives = refl; ends = e }))
     step-back d counts (wrap {q = q} c x) h =
         enter d counts c refl h (λ h₁. bind-last _ _ (below counts q .run x h₁) (λ e. record { gives = refl; ends = e }))
     step-back d counts (modified {q = q} {tb = tb} {bs = bs} c w k x) h =

@@ -1,3 +1,4 @@
+pub mod Places
 pub mod Starred
 pub mod Sound
 pub mod Complete
@@ -8,3 +9,4 @@ pub mod Reading
 pub mod Writing
 pub mod Refusals
 pub mod Bounds
+pub mod Modifiers

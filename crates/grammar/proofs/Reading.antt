@@ -4,7 +4,7 @@
 use Prim.Native.Nat.{ℕ, _≤_}
 use native.Mathlib.Omega.{arith}
 use mathlib.Core.Path.{_≡_, refl, sym, subst}
-use mathlib.Core.Bool.{_&&_}
+use mathlib.Core.Bool.{true, _&&_}
 use mathlib.Core.List.{List}
 use lib.ListN.{length}
 use lib.Dec.{leb, eqb}
@@ -54,13 +54,17 @@ module _ (kind : ℕ) (counts : Counts) (s : List ℕ) where
   pub accepted : Bytes s → (a n : ℕ) (rs : List Node) → judge kind counts s ≡ done a n rs → (a ≡ length s) × Signature kind counts s n rs
   accepted bytes a n rs e = holds-done (judge kind counts s) (holds-judge bytes) e
 
+  -- the row counts are known
+  pub counts-known : {n : ℕ} {rs : List Node} → Signature kind counts s n rs → knownCounts counts ≡ true
+  counts-known g = both _ _ (both _ _ (le-leb _ _ (g .defs)) (le-leb _ _ (g .refs))) (le-leb _ _ (g .specs))
+
   -- what is derived is accepted, with the derivation's table
   pub derivable : (n : ℕ) (rs : List Node) → Signature kind counts s n rs → judge kind counts s ≡ done (length s) n rs
   unfolding judge
   derivable n rs g =
       let m : Meets (judge kind counts s) (length s) n rs (length s) =
       check-pass (leb kind maxKind) 12 0 _ (le-leb _ _ (g .known-kind))
-      (check-pass (knownCounts counts) 13 0 _ (both _ _ (both _ _ (le-leb _ _ (g .defs)) (le-leb _ _ (g .refs))) (le-leb _ _ (g .specs)))
+      (check-pass (knownCounts counts) 13 0 _ (counts-known g)
       (check-pass (leb (length s) maxBytes) 1 0 _ (le-leb _ _ (g .short))
       (bind-last (node maxDepth s counts (rootOf kind) 0 0) (λ a k ts. check (eqb a (length s)) 9 a (λ _. done a k ts))
       (node-back s maxDepth counts (rootOf kind) .run (g .derived) (whole s))

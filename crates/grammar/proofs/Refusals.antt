@@ -4,21 +4,19 @@
 use Prim.Native.Nat.{ℕ, zero, suc, _+_, _≤_, _<_}
 use native.Mathlib.Omega.{arith}
 use mathlib.Core.Path.{_≡_, refl, sym, subst}
-use mathlib.Core.Bool.{Bool, true, false, cond, _&&_, _||_}
+use mathlib.Core.Bool.{Bool, true, false, _&&_, _||_}
 use mathlib.Core.Logic.{_⊎_, inl, inr}
 use mathlib.Core.List.{List, [], _∷_}
 use lib.ListN.{length, getD}
 use lib.Dec.{T, ltb, leb, eqb}
 use borrow.Author.Tests.{ltb-true, leb-true, eqb-true}
-use Rattle.number.specs.Number.{numberAt, maxNumber}
-use Rattle.number.specs.Checked.{checked, checkedAt, countOf, countAt}
-use Rattle.number.specs.Token.{tagOf, rowOf, rowsOf, typeTags, modTags, tokenOf, tokenAt}
-use Rattle.number.specs.declared.Number.{Number}
-use Rattle.number.specs.declared.Number.the-variants.{Value, Cut, BadByte, TooLong}
+use Rattle.number.specs.Number.{maxNumber}
+use Rattle.number.specs.Checked.{checkedAt}
+use Rattle.number.specs.Token.{typeTags, modTags}
 use Rattle.number.specs.declared.checked.Checked.{Checked}
 use Rattle.number.specs.declared.checked.Checked.the-variants.{Good, Bad}
 use Rattle.number.specs.declared.token.Counts.{Counts}
-use Rattle.number.proofs.Laws.{onward}
+use Rattle.number.proofs.Checks.{Way, passed, refused, checked-onward, number-way, count-way, token-way}
 use Rattle.element.specs.Element.{allowed, within, formOf}
 use Rattle.element.specs.declared.Place.{Place}
 use Rattle.element.specs.declared.Place.the-variants as Place
@@ -28,7 +26,7 @@ use Rattle.grammar.specs.Refusals.{refusals, among, Refusal}
 use Rattle.grammar.specs.Kinds.{maxKind, rootOf}
 use Rattle.grammar.specs.Limits.{maxBytes, maxNodes, maxDepth, maxRank}
 use Rattle.grammar.specs.Table.{kindOf, SIZE, LOW}
-use Rattle.grammar.specs.Judge.{Out, fault, done, bind, check, numbered, many, bound, size, low, Reader, callable, body, opened, node, knownCounts, judge, reading}
+use Rattle.grammar.specs.Judge.{Out, fault, done, bind, check, numbered, number, count, token, many, bound, size, low, Reader, callable, body, opened, node, knownCounts, judge, reading}
 use Rattle.grammar.specs.declared.Node.{Node}
 use Rattle.grammar.proofs.Sound.{holds-done, both-left, both-right}
 use Rattle.grammar.proofs.Bounds.{ends-judge}
@@ -49,46 +47,18 @@ module _ (s : List ℕ) where
 
   -- ---- numbers
 
-  data Numbered : Checked → Type 0 where
-    bad : (refusal : ℕ) → Refusal refusal → Numbered (Bad refusal)
-    good : {v next : ℕ} → next ≤ length s → Numbered (Good v next)
+  told-numbered : {Rule : ℕ → Type 0} (o : Checked) (at : ℕ) (k : ℕ → ℕ → Out) → Way (checkedAt s at) Rule Refusal o → at ≤ length s → ((v next : ℕ) → next ≤ length s → Told (k v next)) → Told (numbered o at k)
+  told-numbered (Good v next) at k (passed e h) l f = f v next (checked-onward s at v next e .1)
+  told-numbered (Bad refusal) at k (refused _ r) l f = told refusal r l
 
-  numbered-cond : (t : Bool) (x y : Checked) → Numbered x → Numbered y → Numbered (cond t x y)
-  numbered-cond true x y h k = h
-  numbered-cond false x y h k = k
+  told-number : (at : ℕ) (k : ℕ → ℕ → Out) → at ≤ length s → ((v next : ℕ) → next ≤ length s → Told (k v next)) → Told (number s at k)
+  told-number at k l f = told-numbered _ at k (number-way Refusal s at _) l f
 
-  told-numbered : (o : Checked) (at : ℕ) (k : ℕ → ℕ → Out) → Numbered o → at ≤ length s → ((v next : ℕ) → next ≤ length s → Told (k v next)) → Told (numbered o at k)
-  told-numbered (Good v next) at k (good h) l f = f v next h
-  told-numbered (Bad refusal) at k (bad _ r) l f = told refusal r l
+  told-count : (low high at : ℕ) (k : ℕ → ℕ → Out) → at ≤ length s → ((v next : ℕ) → next ≤ length s → Told (k v next)) → Told (count low high s at k)
+  told-count low high at k l f = told-numbered _ at k (count-way Refusal s at low high _) l f
 
-  number-told : (at : ℕ) → Numbered (checkedAt s at)
-  unfolding checkedAt checked
-  number-told at = go (numberAt s at) refl
-    where
-      go : (o : Number) → numberAt s at ≡ o → Numbered (checked o)
-      go (Value v next) e = good (onward s at v next e .1)
-      go Cut e = bad 2 tt
-      go BadByte e = bad 3 tt
-      go TooLong e = bad 3 tt
-
-  count-told : (low high at : ℕ) → Numbered (countAt low high s at)
-  unfolding countAt countOf
-  count-told low high at = go (checkedAt s at) (number-told at)
-    where
-      go : (o : Checked) → Numbered o → Numbered (countOf low high o)
-      go (Good v next) h = numbered-cond (leb low v && leb v high) _ _ h (bad 4 tt)
-      go (Bad refusal) h = h
-
-  token-told : (tags : ℕ) (counts : Counts) (at : ℕ) → Numbered (tokenAt tags counts s at)
-  unfolding tokenAt tokenOf
-  token-told tags counts at = go (checkedAt s at) (number-told at)
-    where
-      go : (o : Checked) → Numbered o → Numbered (tokenOf tags counts o)
-      go (Good t next) h =
-          numbered-cond (ltb (tagOf t) tags) _ _
-          (numbered-cond (leb 1 (rowOf t) && leb (rowOf t) (rowsOf counts (tagOf t))) _ _ h (bad 8 tt))
-          (bad 7 tt)
-      go (Bad refusal) h = h
+  told-token : (tags : ℕ) (counts : Counts) (at : ℕ) (k : ℕ → ℕ → Out) → at ≤ length s → ((t next : ℕ) → next ≤ length s → Told (k t next)) → Told (token tags counts s at k)
+  told-token tags counts at k l f = told-numbered _ at k (token-way Refusal s at tags counts _) l f
 
   -- ---- nodes
 
@@ -98,15 +68,15 @@ module _ (s : List ℕ) where
   told-many item f (suc k) at n l =
       told-bind (item at n) _ (f at n l) (λ at₁ n₁ rs h. told-bind (many item k at₁ n₁) _ (told-many item f k at₁ n₁ h) (λ at₂ n₂ ts g. fine g))
 
-  told-bound : (kind d : ℕ) (c : Checked) → Numbered c → (at n : ℕ) → at ≤ length s → Told (bound kind d c at n)
-  told-bound kind d c o at n l =
-      told-numbered c at _ o l
+  told-bound : (kind d at n : ℕ) → at ≤ length s → Told (bound kind d (checkedAt s at) at n)
+  told-bound kind d at n l =
+      told-number at _ l
       (λ v next h. told-check (leb 1 d) 6 at _ tt l (λ _. told-check (ltb n maxNodes) 10 at _ tt l (λ _. fine h)))
 
   module _ (read : Reader) (below : (counts : Counts) (p : Place) (at n : ℕ) → at ≤ length s → Told (read counts p at n)) where
     told-callable : (counts : Counts) (p : Place) (kind a b at n from : ℕ) → from ≤ length s → Told (callable read s counts p kind a b at n from)
     told-callable counts p kind a b at n from l =
-        told-numbered (checkedAt s from) from _ (number-told from) l
+        told-number from _ l
         (λ c next h. told-bind (read counts Place.RetType next (n + 1)) _ (below counts Place.RetType next (n + 1) h)
         (λ at₁ n₁ rs e. told-bind (many (read counts p) c at₁ n₁) _ (told-many (read counts p) (below counts p) c at₁ n₁ e)
         (λ at₂ n₂ ts g. fine g)))
@@ -115,33 +85,33 @@ module _ (s : List ℕ) where
     unfolding body
     told-body d counts kind b at n Refused l = told 5 {off = at} tt (omega arith)
     told-body d counts kind b at n Leaf l = fine {at = at + 1} (omega arith)
-    told-body d counts kind b at n Named l = told-numbered _ (at + 1) _ (token-told typeTags counts (at + 1)) (omega arith) (λ t next h. fine h)
-    told-body d counts kind b at n Variable l = told-numbered _ (at + 1) _ (number-told (at + 1)) (omega arith) (λ v next h. fine h)
+    told-body d counts kind b at n Named l = told-token typeTags counts (at + 1) _ (omega arith) (λ t next h. fine h)
+    told-body d counts kind b at n Variable l = told-number (at + 1) _ (omega arith) (λ v next h. fine h)
     told-body d counts kind b at n (Wrap p) l = told-bind (read counts p (at + 1) (n + 1)) _ (below counts p (at + 1) (n + 1) (omega arith)) (λ at₁ n₁ rs h. fine h)
     told-body d counts kind b at n (Modified p) l =
-        told-numbered _ (at + 1) _ (token-told modTags counts (at + 1)) (omega arith)
+        told-token modTags counts (at + 1) _ (omega arith)
         (λ t next h. told-bind (read counts p next (n + 1)) _ (below counts p next (n + 1) h) (λ at₁ n₁ rs g. fine g))
     told-body d counts kind b at n (Counted p) l =
-        told-numbered _ (at + 1) _ (count-told 1 maxNumber (at + 1)) (omega arith)
+        told-count 1 maxNumber (at + 1) _ (omega arith)
         (λ c next h. told-bind (many (read counts p) c next (n + 1)) _ (told-many (read counts p) (below counts p) c next (n + 1) h) (λ at₁ n₁ rs g. fine g))
     told-body d counts kind b at n Array l =
         told-bind (read counts Place.Type (at + 1) (n + 1)) _ (below counts Place.Type (at + 1) (n + 1) (omega arith))
-        (λ at₁ n₁ ts h₁. told-numbered _ at₁ _ (count-told 1 maxRank at₁) h₁
-        (λ rank at₂ h₂. told-numbered _ at₂ _ (count-told 0 rank at₂) h₂
-        (λ sizes at₃ h₃. told-bind (many (size d s) sizes at₃ n₁) _ (told-many (size d s) (λ at n l. told-bound SIZE d (checkedAt s at) (number-told at) at n l) sizes at₃ n₁ h₃)
-        (λ at₄ n₂ ss h₄. told-numbered _ at₄ _ (count-told 0 rank at₄) h₄
-        (λ lows at₅ h₅. told-bind (many (low d s) lows at₅ n₂) _ (told-many (low d s) (λ at n l. told-bound LOW d (checkedAt s at) (number-told at) at n l) lows at₅ n₂ h₅)
+        (λ at₁ n₁ ts h₁. told-count 1 maxRank at₁ _ h₁
+        (λ rank at₂ h₂. told-count 0 rank at₂ _ h₂
+        (λ sizes at₃ h₃. told-bind (many (size d s) sizes at₃ n₁) _ (told-many (size d s) (told-bound SIZE d) sizes at₃ n₁ h₃)
+        (λ at₄ n₂ ss h₄. told-count 0 rank at₄ _ h₄
+        (λ lows at₅ h₅. told-bind (many (low d s) lows at₅ n₂) _ (told-many (low d s) (told-bound LOW d) lows at₅ n₂ h₅)
         (λ at₆ n₃ ls h₆. fine h₆))))))
     told-body d counts kind b at n Instance l =
         told-check (ltb (at + 1) (length s)) 2 (at + 1) _ tt (omega arith)
         (λ e. told-check (within 0x11 0x12 (getD s (at + 1) 0)) 5 (at + 1) _ tt (omega arith)
-        (λ _. told-numbered _ (at + 2) _ (token-told typeTags counts (at + 2)) (omega (arith, ltb-true (at + 1) (length s) e))
-        (λ t at₁ h₁. told-numbered _ at₁ _ (count-told 1 maxNumber at₁) h₁
+        (λ _. told-token typeTags counts (at + 2) _ (omega (arith, ltb-true (at + 1) (length s) e))
+        (λ t at₁ h₁. told-count 1 maxNumber at₁ _ h₁
         (λ c at₂ h₂. told-bind (many (read counts Place.Type) c at₂ (n + 1)) _ (told-many (read counts Place.Type) (below counts Place.Type) c at₂ (n + 1) h₂)
         (λ at₃ n₁ rs h₃. fine h₃)))))
     told-body d counts kind b at n (Callable p) l = told-callable counts p kind 0 b at n (at + 1) (omega arith)
     told-body d counts kind b at n (Generic p) l =
-        told-numbered _ (at + 1) _ (count-told 1 maxNumber (at + 1)) (omega arith) (λ g next h. told-callable counts p kind g b at n next h)
+        told-count 1 maxNumber (at + 1) _ (omega arith) (λ g next h. told-callable counts p kind g b at n next h)
 
   told-opened : (d : ℕ) (p : Place) (at n : ℕ) (k : ℕ → Form → Out) → at ≤ length s → (at < length s → Told (k (getD s at 0) (formOf p (getD s at 0)))) → Told (opened d s p at n k)
   told-opened d p at n k l f =

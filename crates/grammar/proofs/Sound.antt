@@ -3,16 +3,14 @@
 use Prim.Native.Nat.{ℕ, zero, suc, _+_, _≤_, _<_}
 use native.Mathlib.Omega.{arith}
 use mathlib.Core.Path.{_≡_, refl}
-use mathlib.Core.Bool.{Bool, true, false, cond, _&&_}
+use mathlib.Core.Bool.{Bool, true, false, _&&_}
 use mathlib.Core.List.{List, [], _∷_, _++_}
 use lib.ListN.{length, getD}
 use lib.Dec.{ltb, leb}
 use borrow.Author.Tests.{ltb-true, leb-true}
-use Rattle.number.specs.Number.{Bytes, numberAt, encode, maxNumber}
-use Rattle.number.specs.Checked.{checked, checkedAt, countOf, countAt}
-use Rattle.number.specs.Token.{tagOf, rowOf, rowsOf, typeTags, modTags, tokenOf, tokenAt}
-use Rattle.number.specs.declared.Number.{Number}
-use Rattle.number.specs.declared.Number.the-variants.{Value, Cut, BadByte, TooLong}
+use Rattle.number.specs.Number.{Bytes, encode, maxNumber}
+use Rattle.number.specs.Checked.{checkedAt}
+use Rattle.number.specs.Token.{typeTags, modTags}
 use Rattle.number.specs.declared.checked.Checked.{Checked}
 use Rattle.number.specs.declared.checked.Checked.the-variants.{Good, Bad}
 use Rattle.number.specs.declared.token.Counts.{Counts}
@@ -26,7 +24,8 @@ use Rattle.grammar.specs.Table.{entry, kindOf, SIZE, LOW}
 use Rattle.grammar.specs.Judge.{Out, fault, done, bind, check, numbered, number, count, token, many, bound, size, low, Reader, callable, body, opened, node}
 use Rattle.grammar.specs.Derives.{Span, Numeral, Token, Many, none, more, Bound, bounded, Size, Low, parameters, Call, call, Step, leaf, named, variable, wrap, modified, counted, array, inst, method, generic, Derives}
 use Rattle.grammar.specs.declared.Node.{Node}
-use Rattle.number.proofs.Laws.{decoded}
+use Rattle.number.proofs.Checks.{Way, passed, number-way, count-way, token-way}
+use Rattle.number.proofs.Blobs.{got}
 use Rattle.number.proofs.Stands.{Stands, nothing, byte, join, moved, stands-length}
 
 -- P holds of what an outcome gives, if it is no fault
@@ -76,74 +75,30 @@ module _ (s : List ℕ) (bytes : Bytes s) where
   abbrev pub Found : Span → ℕ → ℕ → ℕ → ℕ → List Node → Type 0
   Found X at n at′ n′ rs = (bs : List ℕ) × X at n at′ n′ bs rs × Stands s at bs at′
 
-  -- a number that passed its checks stands there encoded, and T holds of it
-  data Encoded (T : ℕ → Type 0) (at : ℕ) : Checked → Type 0 where
-    encoded : {v z : ℕ} (bs : List ℕ) → Numeral v at z bs → T v → Stands s at bs z → Encoded T at (Good v z)
-    none-there : {c : ℕ} → Encoded T at (Bad c)
-
-  number-encoded : (at : ℕ) → Encoded (λ v. Unit {0}) at (checkedAt s at)
-  unfolding checkedAt checked
-  number-encoded at = go (numberAt s at) refl
-    where
-      go : (o : Number) → numberAt s at ≡ o → Encoded (λ v. Unit {0}) at (checked o)
-      go (Value v z) e =
-          let h = decoded s at v z bytes e in
-          encoded (encode v) (record { small = h .small; written = refl; ends = stands-length (h .stands) }) tt (h .stands)
-      go Cut e = none-there
-      go BadByte e = none-there
-      go TooLong e = none-there
-
-  by-test : {T : ℕ → Type 0} (at : ℕ) (t : Bool) (x y : Checked) → (t ≡ true → Encoded T at x) → (t ≡ false → Encoded T at y) → Encoded T at (cond t x y)
-  by-test at true x y h k = h refl
-  by-test at false x y h k = k refl
-
-  token-encoded : (tags : ℕ) (counts : Counts) (at : ℕ) → Encoded (Token tags counts) at (tokenAt tags counts s at)
-  unfolding tokenAt tokenOf
-  token-encoded tags counts at = go (checkedAt s at) (number-encoded at)
-    where
-      go : (o : Checked) → Encoded (λ v. Unit {0}) at o → Encoded (Token tags counts) at (tokenOf tags counts o)
-      go (Bad c) none-there = none-there
-      go (Good t z) (encoded bs w _ h) =
-          by-test at (ltb (tagOf t) tags) _ _
-          (λ e₁. by-test at (leb 1 (rowOf t) && leb (rowOf t) (rowsOf counts (tagOf t))) _ _
-          (λ e₂. encoded bs w
-          (record { tag = ltb-true _ _ e₁; positive = leb-true _ _ (both-left _ _ e₂); within = leb-true _ _ (both-right (leb 1 (rowOf t)) _ e₂) })
-          h)
-          (λ e₂. none-there))
-          (λ e₁. none-there)
-
-  count-encoded : (low high at : ℕ) → Encoded (λ v. (low ≤ v) × (v ≤ high)) at (countAt low high s at)
-  unfolding countAt countOf
-  count-encoded low high at = go (checkedAt s at) (number-encoded at)
-    where
-      go : (o : Checked) → Encoded (λ v. Unit {0}) at o → Encoded (λ v. (low ≤ v) × (v ≤ high)) at (countOf low high o)
-      go (Bad c) none-there = none-there
-      go (Good v z) (encoded bs w _ h) =
-          by-test at (leb low v && leb v high) _ _
-          (λ e. encoded bs w (leb-true _ _ (both-left _ _ e), leb-true _ _ (both-right (leb low v) _ e)) h)
-          (λ e. none-there)
-
   module _ {P : ℕ → ℕ → List Node → Type 0} where
-    -- a number with what its test says of it
-    holds-numbered : {T : ℕ → Type 0} (at : ℕ) (o : Checked) (k : ℕ → ℕ → Out) → Encoded T at o
-        → ((v z : ℕ) (bs : List ℕ) → Numeral v at z bs → T v → Stands s at bs z → Holds P (k v z)) → Holds P (numbered o at k)
-    holds-numbered at (Good v z) k (encoded bs w t h) f = f v z bs w t h
-    holds-numbered at (Bad c) k e f = stopped
+    -- a number that passed its checks stands there encoded, and its rule holds of it
+    holds-numbered : {Rule : ℕ → Type 0} (at : ℕ) (o : Checked) (k : ℕ → ℕ → Out) → Way (checkedAt s at) Rule (λ c. Unit {0}) o
+        → ((v z : ℕ) (bs : List ℕ) → Numeral v at z bs → Rule v → Stands s at bs z → Holds P (k v z)) → Holds P (numbered o at k)
+    holds-numbered at (Good v z) k (passed e h) f =
+        let g = got s bytes at v z e in
+        f v z (encode v) (record { small = g .fits; written = refl; ends = stands-length (g .stands) }) h (g .stands)
+    holds-numbered at (Bad c) k w f = stopped
 
     holds-number : (at : ℕ) (k : ℕ → ℕ → Out)
         → ((v z : ℕ) (bs : List ℕ) → Numeral v at z bs → Stands s at bs z → Holds P (k v z)) → Holds P (number s at k)
-    holds-number at k f = holds-numbered at (checkedAt s at) k (number-encoded at) (λ v z bs w t h. f v z bs w h)
+    holds-number at k f = holds-numbered at _ k (number-way _ s at _) (λ v z bs w r h. f v z bs w h)
 
     holds-token : (tags : ℕ) (counts : Counts) (at : ℕ) (k : ℕ → ℕ → Out)
         → ((t z : ℕ) (bs : List ℕ) → Numeral t at z bs → Token tags counts t → Stands s at bs z → Holds P (k t z))
         → Holds P (token tags counts s at k)
     holds-token tags counts at k f =
-        holds-numbered at (tokenAt tags counts s at) k (token-encoded tags counts at) f
+        holds-numbered at _ k (token-way _ s at tags counts _)
+        (λ t z bs w r h. f t z bs w (record { tag = r .0; positive = r .1; within = r .2 }) h)
 
     holds-count : (low high at : ℕ) (k : ℕ → ℕ → Out)
         → ((v z : ℕ) (bs : List ℕ) → Numeral v at z bs → (low ≤ v) × (v ≤ high) → Stands s at bs z → Holds P (k v z))
         → Holds P (count low high s at k)
-    holds-count low high at k f = holds-numbered at (countAt low high s at) k (count-encoded low high at) f
+    holds-count low high at k f = holds-numbered at _ k (count-way _ s at low high _) f
 
   holds-many : (X : Span) (item : ℕ → ℕ → Out) → ((at n : ℕ) → Holds (Found X at n) (item at n))
       → (k at n : ℕ) → Holds (Found (Many X k) at n) (many item k at n)

@@ -4,7 +4,7 @@ use Prim.Native.Nat.{ℕ, zero, suc, _+_, _/_, _≤_, _<_}
 use native.Mathlib.Omega.{arith}
 use mathlib.Core.Path.{_≡_, refl}
 use mathlib.Core.Bool.{Bool, true, false, cond}
-use mathlib.Core.List.{List, [], _∷_, _++_}
+use mathlib.Core.List.{List, [], _∷_}
 use lib.ListN.{length}
 use lib.Dec.{leb, eqb}
 use borrow.Author.Tests.{leb-true, leb-false, le-leb, eqb-true, eq-eqb}
@@ -18,10 +18,11 @@ use Rattle.grammar.specs.declared.Node.{Node}
 use Rattle.grammar.specs.Judge.{Out, fault, done, knownCounts, judge}
 use Rattle.grammar.specs.Derives.{HasTable}
 use Rattle.grammar.specs.Emit.{Layout, plain, valued, array, instance, callable, field, locals, size, low, layoutOf, lowsOf, paramCount, partsOf, Emitted, torn, wrote, andThen, times, parts, emit, emitted}
-use Rattle.grammar.specs.Writer.{sameNumbers, hasTable, Written, refused, written, fitted, confirmed, writing}
+use Rattle.grammar.specs.Writer.{sameNumbers, hasTable, confirmed, writing}
+use Rattle.answer.specs.Written.{Written, refused, written, fitted}
 use Rattle.grammar.proofs.Sound.{both-left, both-right}
 use Rattle.grammar.proofs.Complete.{both}
-use Rattle.grammar.proofs.Reading.{accepted, derivable, emitted-back}
+use Rattle.grammar.proofs.Reading.{accepted, counts-known, derivable, emitted-back}
 
 -- ---- what is emitted is bytes
 
@@ -177,8 +178,7 @@ module _ (kind : ℕ) (counts : Counts) (t : List ℕ) where
     writable s h =
         let g = h .signature in
         let e₁ : leb kind maxKind ≡ true = le-leb _ _ (g .known-kind) in
-        let e₂ : knownCounts counts ≡ true = both _ _ (both _ _ (le-leb _ _ (g .defs)) (le-leb _ _ (g .refs))) (le-leb _ _ (g .specs)) in
-        rw (e₁, e₂, emitted-is s h, confirmed-is s h)
+        rw (e₁, counts-known kind counts s g, emitted-is s h, confirmed-is s h)
 
   -- a table has at most one blob of a kind
   pub one-blob : (s s′ : List ℕ) → HasTable kind counts s t → HasTable kind counts s′ t → s ≡ s′

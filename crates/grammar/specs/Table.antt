@@ -1,7 +1,10 @@
 -- Document 01, "The node table": a node's record, the kinds that are no element bytes, and the flat list of numbers.
 use Prim.Native.Nat.{ℕ, _+_, _*_}
+use mathlib.Core.Bool.{Bool, _||_, _&&_}
 use mathlib.Core.List.{List, [], _∷_, _++_}
 use lib.ListN.{getD}
+use lib.Dec.{eqb}
+use Rattle.number.specs.Token.{typeSpecToken}
 use Rattle.element.specs.declared.Place.{Place}
 use Rattle.element.specs.declared.Place.the-variants as Place
 use Rattle.grammar.specs.declared.Node.{Node}
@@ -44,6 +47,14 @@ kindOf Place.FieldSig b = FIELD
 kindOf Place.LocalVarSig b = LOCALS
 kindOf Place.PropertySig b = PROPERTY
 kindOf Place.MethodDefSig b = METHOD
+
+-- "Mod: 1F or 20": such a node's kind
+abbrev pub isModifier : ℕ → Bool
+isModifier kind = eqb kind 0x1F || eqb kind 0x20
+
+-- "a Mod .. has the token of TypeSpec row s"
+abbrev pub isModifierOf : ℕ → Node → Bool
+isModifierOf s r = isModifier (r .kind) && eqb (r .a) (typeSpecToken s)
 
 -- "A flat list of 32-bit numbers, six to a record"
 abbrev pub six : Node → List ℕ

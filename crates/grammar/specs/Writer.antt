@@ -2,9 +2,9 @@
 use Prim.Native.Nat.{ℕ}
 use mathlib.Core.Bool.{Bool, true, false, cond, _&&_}
 use mathlib.Core.List.{List, [], _∷_}
-use lib.ListN.{length}
 use lib.Dec.{leb, eqb}
 use Rattle.number.specs.declared.token.Counts.{Counts}
+use Rattle.answer.specs.Written.{Written, refused, fitted}
 use Rattle.grammar.specs.Kinds.{maxKind}
 use Rattle.grammar.specs.Table.{flat}
 use Rattle.grammar.specs.Judge.{Out, fault, done, knownCounts, judge}
@@ -20,15 +20,6 @@ sameNumbers (x ∷ xs) (y ∷ ys) = eqb x y && sameNumbers xs ys
 unfoldable pub hasTable : List ℕ → Out → Bool
 hasTable t (fault code place) = false
 hasTable t (done at n rs) = sameNumbers (flat rs) t
-
--- What the writer gives: a refusal's number and place, or the bytes.
-pub data Written : Type 0 where
-  refused : (code place : ℕ) → Written
-  written : List ℕ → Written
-
--- 15 "output too short", with the bytes needed
-abbrev pub fitted : (room : ℕ) → List ℕ → Written
-fitted room s = cond (leb (length s) room) (written s) (refused 15 (length s))
 
 -- 14 "no blob of this kind under these counts has this table"
 abbrev pub confirmed : (kind : ℕ) → Counts → List ℕ → (room : ℕ) → Emitted → Written

@@ -4,7 +4,7 @@ ghost use mathlib.Core.Path.{_≡_};
 ghost use Prim.Native.Nat.{_+_, _*_, _≤_};
 ghost use lib.ListN.{length};
 ghost use Rattle.grammar.specs.Kinds.{rootOf};
-ghost use Rattle.grammar.specs.Table.{kindOf, recordAt};
+ghost use Rattle.grammar.specs.Table.{kindOf, isModifier, recordAt};
 ghost use Rattle.grammar.specs.Judge.{knownCounts};
 use element::Place;
 use number::token::Counts;
@@ -84,20 +84,23 @@ pub fn kind_of(place: Place, byte: u8) -> u32
     ensures { λ r. ⌜ r ≡ kindOf place byte ⌝ }
 {
     match place {
-        Place::Type => byte as u32,
-        Place::Pointee => byte as u32,
-        Place::Param => byte as u32,
-        Place::RetType => byte as u32,
-        Place::Local => byte as u32,
-        Place::Pinned => byte as u32,
-        Place::TypeSpec => byte as u32,
-        Place::ModifiedSpec => byte as u32,
         Place::FnPtrMethod => METHOD,
         Place::FieldSig => FIELD,
         Place::LocalVarSig => LOCALS,
         Place::PropertySig => PROPERTY,
         Place::MethodDefSig => METHOD,
+        _ => byte as u32,
     }
+}
+
+// Whether a node of this kind is a modifier: CMOD_REQD or CMOD_OPT.
+pub fn is_modifier(kind: u32) -> bool
+    ensures { λ r. ⌜ r ≡ isModifier kind ⌝ }
+{
+    if kind == 0x1F {
+        return true;
+    }
+    kind == 0x20
 }
 
 // The record with index n of a flat node table.

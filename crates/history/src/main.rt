@@ -1,6 +1,7 @@
 // Histories of calls on a register. What is printed is held to the file stdout.
 mod print;
 
+use number::token::row_counts;
 use register::MAX_SIZE;
 use register::Register;
 use register::WORDS;
@@ -21,7 +22,7 @@ fn ask_five(g: Register, sets: &Sets) {
 
 // Document 01's sheet, and the last row of its bench.
 fn worked_sheet(sets: &mut Sets) {
-    let g = print::open(0, 0, 3, sets);
+    let g = print::open(row_counts(0, 0, 3), sets);
     let g = print::file(g, 1, b"\x0F\x20\x0A\x08", sets);
     let g = print::file(g, 2, b"\x10", sets);
     let g = print::file(g, 3, b"\x20\x0E\x08", sets);
@@ -35,18 +36,18 @@ fn worked_sheet(sets: &mut Sets) {
 
 // Refused openings hand back a register of 0 rows.
 fn refused(sets: &mut Sets) {
-    let g = print::open(0x1000000, 0, 0, sets);
+    let g = print::open(row_counts(0x1000000, 0, 0), sets);
     let g = print::file(g, 1, b"\x08", sets);
     print::ask(g, 1, sets);
-    print::open(0, 0x1000000, 513, sets);
-    print::open(0xFFFFFF, 0xFFFFFF, 0, sets);
-    let g = print::open(0, 0, 513, sets);
+    print::open(row_counts(0, 0x1000000, 513), sets);
+    print::open(row_counts(0xFFFFFF, 0xFFFFFF, 0), sets);
+    let g = print::open(row_counts(0, 0, 513), sets);
     print::acknowledge(g, 1, sets);
 }
 
 // Row 1 names 2, which names 3, which names 2; row 4 names itself; row 5 is empty.
 fn rows(sets: &mut Sets) -> Register {
-    let g = print::open(2, 3, 5, sets);
+    let g = print::open(row_counts(2, 3, 5), sets);
     print::ask(g, 1, sets);
     let g = print::acknowledge(g, 1, sets);
     let g = print::file(g, 0, b"\x08", sets);
@@ -100,12 +101,12 @@ fn forged(g: Register, sets: &mut Sets) {
 fn too_few(g: Register) {
     let mut few = [0xFFFFFFFFu32; 79];
     let mut fewer = [0xFFFFFFFFu32; 47];
-    let none = print::open(0, 0, 3, &mut fewer);
+    let none = print::open(row_counts(0, 0, 3), &mut fewer);
     print::word(&fewer, 0);
     print::ask(none, 1, &fewer);
     let none = print::file(none, 1, b"\x08", &mut fewer);
     print::acknowledge(none, 1, &fewer);
-    print::open(0, 0, 513, &mut fewer);
+    print::open(row_counts(0, 0, 513), &mut fewer);
     let g = print::file(g, 6, b"\x08", &mut few);
     let g = print::file(g, 2, b"\x08", &mut few);
     print::word(&few, 16);
@@ -120,7 +121,7 @@ fn too_few(g: Register) {
 
 // The largest register: row 512 names itself, row 511 is refused for naming row 513, and row 1 names row 511.
 fn largest(sets: &mut Sets) {
-    let g = print::open(0, 0, 512, sets);
+    let g = print::open(row_counts(0, 0, 512), sets);
     let g = print::file(g, 512, b"\x20\x88\x02\x08", sets);
     let g = print::file(g, 511, b"\x20\x88\x06\x08", sets);
     let g = print::file(g, 1, b"\x20\x87\xFE\x08", sets);
@@ -139,9 +140,9 @@ fn largest(sets: &mut Sets) {
 // What the calls write: a refused one nothing, opening 0 to the numbers of its rows, a filing the row's own 16. Row 2 names row 1, row 1 a row above the
 // size; then row 2 is refused and names none.
 fn written(sets: &mut Sets) {
-    print::open(0, 0, 513, sets);
+    print::open(row_counts(0, 0, 513), sets);
     print::word(sets, 0);
-    let g = print::open(0, 0, 2, sets);
+    let g = print::open(row_counts(0, 0, 2), sets);
     print::word(sets, 31);
     print::word(sets, 32);
     let g = print::file(g, 2, b"\x20\x06\x08", sets);
@@ -159,7 +160,7 @@ fn written(sets: &mut Sets) {
 
 // A register and memory that no call leaves: a count above FFFFFF, a state above 2, and a bit that names a row above the size.
 fn forged_rows(sets: &mut Sets) {
-    let mut g = print::open(0, 0, 2, sets);
+    let mut g = print::open(row_counts(0, 0, 2), sets);
     g.counts.defs = 0x1000000;
     g.states[1] = 7;
     let g = print::file(g, 1, b"\x08", sets);
@@ -176,16 +177,16 @@ fn just_enough() {
     let mut sixteen = [0u32; 16];
     let mut forty_eight = [0u32; 48];
     let mut less = [0u32; 8191];
-    print::open(0, 0, 1, &mut fifteen);
-    let g = print::open(0, 0, 1, &mut sixteen);
+    print::open(row_counts(0, 0, 1), &mut fifteen);
+    let g = print::open(row_counts(0, 0, 1), &mut sixteen);
     print::ask(g, 1, &sixteen);
-    print::open(0, 0, 3, &mut forty_eight);
-    let none = print::open(0, 0, 512, &mut less);
+    print::open(row_counts(0, 0, 3), &mut forty_eight);
+    let none = print::open(row_counts(0, 0, 512), &mut less);
     print::ask(none, 1, &less);
     let mut nothing = [0u32; 0];
-    print::open(0, 0, 0, &mut nothing);
-    print::open(0, 0, 513, &mut nothing);
-    print::open(0x1000000, 0, 513, &mut nothing);
+    print::open(row_counts(0, 0, 0), &mut nothing);
+    print::open(row_counts(0, 0, 513), &mut nothing);
+    print::open(row_counts(0x1000000, 0, 513), &mut nothing);
 }
 
 fn main() {

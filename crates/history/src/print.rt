@@ -1,7 +1,7 @@
 // What the histories print: each call with its answer, on standard output.
 use cases::print::number;
 use cases::print::text;
-use number::token::no_counts;
+use number::token::Counts;
 use register::Register;
 
 // What a call is, its row and its number.
@@ -21,13 +21,9 @@ fn standing(n: u32) {
     }
 }
 
-pub fn open(defs: u32, refs: u32, rows: u32, sets: &mut [u32]) -> Register {
-    let mut counts = no_counts();
-    counts.defs = defs;
-    counts.refs = refs;
-    counts.specs = rows;
+pub fn open(counts: Counts, sets: &mut [u32]) -> Register {
     let c = register::open(counts, sets);
-    call(b"open ", rows as usize, c.code);
+    call(b"open ", counts.specs as usize, c.code);
     text(b"\n");
     c.register
 }

@@ -18,7 +18,7 @@ use Rattle.number.proofs.Stands.{Stands, split, whole}
 use Rattle.number.proofs.Blobs.{reads, blob-reads}
 use Rattle.grammar.specs.Limits.{maxRows}
 use Rattle.answer.specs.Size.{maxSize}
-use Rattle.layout.specs.Layout.{maxSheet, sectionCount, itemAt, items, noteOf, sections, sectionsOf, layoutOf, countsOf, listFrom, blobsFrom, acksFrom}
+use Rattle.layout.specs.Layout.{maxSheet, sectionCount, itemAt, items, laidOut, noteOf, sections, sectionsOf, layoutOf, countsOf, listFrom, blobsFrom, acksFrom}
 use Rattle.layout.specs.Spelling.{spelled, Each, blobSpelled, Sheet}
 use Rattle.layout.specs.declared.Layout.{Layout}
 use Rattle.layout.specs.declared.Parsed.{Parsed}
@@ -49,8 +49,8 @@ pub record Reading (s : List ℕ) (counts : Counts) (blobs : List (List ℕ)) (a
   pub layout : Layout
   pub accepted : layoutOf s ≡ Accepted layout
   pub counts-read : countsOf s layout ≡ counts
-  pub blobs-read : blobsFrom (layout .rows) s (layout .blobs) ≡ blobs
-  pub acks-read : acksFrom (layout .acknowledged) s (layout .acks) ≡ acks
+  pub blobs-read : blobsFrom (layout .rows) s (layout .starts .blobs) ≡ blobs
+  pub acks-read : acksFrom (layout .acknowledged) s (layout .starts .acks) ≡ acks
 
 -- "Exactly 01's rules", the other way: what spells a sheet is accepted, and its counts, blobs and rows are read back
 pub sheet-complete : (s : List ℕ) (counts : Counts) (blobs : List (List ℕ)) (acks : List ℕ) → Sheet s counts blobs acks → Reading s counts blobs acks
@@ -78,12 +78,12 @@ sheet-complete s counts blobs acks h =
     let c₂ : itemAt 0 s (p₁ .0) ≡ Good (counts .refs) (p₂ .0) = sym (count-in s (p₁ .0) refl 0 maxRows second zero-le (h .refs-few)) in
     let c₃ : sectionCount 1 s (p₂ .0) ≡ Good (length blobs) (p₃ .0) = sym (count-in s (p₂ .0) refl 1 maxSize rows (h .some-blobs) (h .few-blobs)) in
     record {
-      layout = record { counts = p₀ .0; blobs = p₃ .0; rows = length blobs; acks = p₅ .0; acknowledged = length acks };
+      layout = laidOut (p₀ .0) (p₃ .0) (p₅ .0) (length blobs) (length acks);
       accepted =
           ap (λ b. cond b (Refused maxSheet) (sectionsOf s)) (le-ltb maxSheet (length s) (h .size))
           ∙ on (sectionCount 0 s 0) 0 _ c₀ ∙ on (itemAt 0 s (p₀ .0)) (p₀ .0) _ c₁ ∙ on (itemAt 0 s (p₁ .0)) (p₁ .0) _ c₂
           ∙ on (sectionCount 1 s (p₂ .0)) (p₂ .0) _ c₃ ∙ bs .0 _ ∙ on (sectionCount 2 s (p₄ .0)) (p₄ .0) _ number ∙ last .0 _
-          ∙ ap (λ b. cond b (Refused (length s)) (Accepted (record { counts = p₀ .0; blobs = p₃ .0; rows = length blobs; acks = p₅ .0; acknowledged = length acks }))) (le-ltb (length s) (length s) (le-refl (length s)));
+          ∙ ap (λ b. cond b (Refused (length s)) (Accepted (laidOut (p₀ .0) (p₃ .0) (p₅ .0) (length blobs) (length acks)))) (le-ltb (length s) (length s) (le-refl (length s)));
       counts-read = rw (first, second, ← h .rows) refl;
       blobs-read = bs .1;
       acks-read = last .1;

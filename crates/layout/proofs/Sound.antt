@@ -9,7 +9,7 @@ use lib.ListN.{length, take, drop}
 use lib.Dec.{ltb}
 use borrow.Author.Tests.{ltb-false}
 use Rattle.number.specs.Number.{Bytes, limit, encode}
-use Rattle.number.specs.Checked.{checkedAt, countAt, onChecked}
+use Rattle.number.specs.Checked.{checkedAt, onChecked}
 use Rattle.number.specs.declared.token.Counts.{Counts}
 use Rattle.number.specs.declared.checked.Checked.{Checked}
 use Rattle.number.specs.declared.checked.Checked.the-variants.{Good, Bad}
@@ -18,7 +18,7 @@ use Rattle.number.proofs.Stands.{Stands, nothing, join, all-of}
 use Rattle.number.proofs.Blobs.{Got, got, blob-got}
 use Rattle.grammar.specs.Limits.{maxRows}
 use Rattle.answer.specs.Size.{maxSize}
-use Rattle.layout.specs.Layout.{maxSheet, sectionCount, itemAt, items, noteOf, sections, sectionsOf, layoutOf, countsOf, listFrom, blobsFrom, acksFrom}
+use Rattle.layout.specs.Layout.{maxSheet, sectionCount, itemAt, items, laidOut, noteOf, sections, sectionsOf, layoutOf, countsOf, listFrom, blobsFrom, acksFrom}
 use Rattle.layout.specs.Spelling.{spelled, Each, blobSpelled, Sheet}
 use Rattle.layout.specs.declared.Layout.{Layout}
 use Rattle.layout.specs.declared.Parsed.{Parsed}
@@ -83,7 +83,7 @@ sized s p l e = go (ltb maxSheet (length s)) refl e
 
 -- what is read in a sheet spells it
 abbrev pub Of : List ℕ → Layout → Type 0
-Of s l = Sheet s (countsOf s l) (blobsFrom (l .rows) s (l .blobs)) (acksFrom (l .acknowledged) s (l .acks))
+Of s l = Sheet s (countsOf s l) (blobsFrom (l .rows) s (l .starts .blobs)) (acksFrom (l .acknowledged) s (l .starts .acks))
 
 module _ (s : List ℕ) (bytes : Bytes s) (size : length s ≤ maxSheet) where
   -- the first section: its count, which is 2, and two table counts
@@ -97,14 +97,14 @@ module _ (s : List ℕ) (bytes : Bytes s) (size : length s ≤ maxSheet) where
     few : (defs ≤ maxRows) × (refs ≤ maxRows)
 
   heading : (v at end : ℕ) → sectionCount 0 s 0 ≡ Good v at → Run (itemAt 0 s) v at end → Heading at end
-  unfolding sectionCount itemAt countAt
+  unfolding sectionCount itemAt
   heading v at end e r =
-      let c = count-good 2 2 v at (checkedAt s 0) e in
-      let z : v ≡ 2 = omega (arith, c .1, c .2) in
+      let c = count-good 2 2 s 0 v at e in
+      let z : v ≡ 2 = omega (arith, c .1) in
       let t : Run (itemAt 0 s) 2 at end = subst (λ k. Run (itemAt 0 s) k at end) z r in
-      let d = count-good 0 maxRows (t .0) (t .1) (checkedAt s at) (t .2) in
+      let d = count-good 0 maxRows s at (t .0) (t .1) (t .2) in
       let u = t .3 in
-      let f = count-good 0 maxRows (u .0) (u .1) (checkedAt s (t .1)) (u .2) in
+      let f = count-good 0 maxRows s (t .1) (u .0) (u .1) (u .2) in
       record {
         defs = t .0;
         refs = u .0;
@@ -112,22 +112,22 @@ module _ (s : List ℕ) (bytes : Bytes s) (size : length s ≤ maxSheet) where
         start = subst (λ k. Stands s 0 (encode k) at) z (got s bytes 0 v at (c .0) .stands);
         first = d .0;
         second = subst (λ k. checkedAt s (t .1) ≡ Good (u .0) k) (u .3) (f .0);
-        few = (d .2, f .2);
+        few = (d .1 .1, f .1 .1);
       }
 
   module _ (at from rows blobs until count acks last : ℕ) (h : Heading at from) (eb : sectionCount 1 s from ≡ Good rows blobs) (rb : Run (itemAt 1 s) rows blobs until)
       (ea : sectionCount 2 s until ≡ Good count acks) (ra : Run (itemAt 2 s) count acks last) (over : length s ≤ last) where
     abbrev found : Layout
-    found = record { counts = at; blobs = blobs; rows = rows; acks = acks; acknowledged = count }
+    found = laidOut at blobs acks rows count
 
     counts-found : countsOf s found ≡ record { defs = h .defs; refs = h .refs; specs = rows }
     unfolding countsOf
     counts-found = rw (h .first, h .second) refl
 
     assembled : Of s found
-    unfolding sectionCount itemAt countAt
+    unfolding sectionCount itemAt
     assembled =
-        let c = count-good 1 maxSize rows blobs (checkedAt s from) eb in
+        let c = count-good 1 maxSize s from rows blobs eb in
         let defs = got s bytes at (h .defs) (h .middle) (h .first) in
         let refs = got s bytes (h .middle) (h .refs) from (h .second) in
         let gb = got s bytes from rows blobs (c .0) in
@@ -143,8 +143,8 @@ module _ (s : List ℕ) (bytes : Bytes s) (size : length s ≤ maxSheet) where
           defs-few = h .few .0;
           refs-few = h .few .1;
           rows = sym (lb .counts);
-          some-blobs = omega (arith, lb .counts, c .1);
-          few-blobs = omega (arith, lb .counts, c .2);
+          some-blobs = omega (arith, lb .counts, c .1 .0);
+          few-blobs = omega (arith, lb .counts, c .1 .1);
           numbers = (omega (arith, la .counts, ga .fits), lb .fits, la .fits);
           spells = all-of (join (h .start) (join (defs .stands) (join (refs .stands) (join number (join (lb .stands) (join behind tail))))));
         })

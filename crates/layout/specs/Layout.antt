@@ -34,15 +34,19 @@ unfoldable pub items : (ℕ → Checked) → ℕ → ℕ → (ℕ → Parsed) �
 items item zero at then = then at
 items item (suc k) at then = onChecked (item at) (λ v next. items item k next then) (λ code. Refused at)
 
+-- the offsets at which the items of the sections begin, and how many blobs and acknowledgements there are
+abbrev pub laidOut : (counts blobs acks rows acknowledged : ℕ) → Layout
+laidOut counts blobs acks rows acknowledged = record { starts = record { counts = counts; blobs = blobs; acks = acks }; rows = rows; acknowledged = acknowledged }
+
 -- the layout when the count of a section was read, and the offset after it
 unfoldable pub noteOf : ℕ → (count next : ℕ) → Layout → Layout
 noteOf i count next l =
-    cond (eqb i 0) (record { counts = next; blobs = l .blobs; rows = l .rows; acks = l .acks; acknowledged = l .acknowledged })
-    (cond (eqb i 1) (record { counts = l .counts; blobs = next; rows = count; acks = l .acks; acknowledged = l .acknowledged })
-    (record { counts = l .counts; blobs = l .blobs; rows = l .rows; acks = next; acknowledged = count }))
+    cond (eqb i 0) (laidOut next (l .starts .blobs) (l .starts .acks) (l .rows) (l .acknowledged))
+    (cond (eqb i 1) (laidOut (l .starts .counts) next (l .starts .acks) count (l .acknowledged))
+    (laidOut (l .starts .counts) (l .starts .blobs) next (l .rows) count))
 
 abbrev pub blankLayout : Layout
-blankLayout = record { counts = 0; blobs = 0; rows = 0; acks = 0; acknowledged = 0 }
+blankLayout = laidOut 0 0 0 0 0
 
 -- k sections from section i on, then "the first left over"
 unfoldable pub sections : (k i : ℕ) → List ℕ → ℕ → Layout → Parsed
@@ -63,7 +67,7 @@ layoutOf s = cond (ltb maxSheet (length s)) (Refused maxSheet) (sectionsOf s)
 -- the table counts: of TypeDef and TypeRef as they are read, of TypeSpec the number of rows
 unfoldable pub countsOf : List ℕ → Layout → Counts
 countsOf s l =
-    onChecked (checkedAt s (l .counts))
+    onChecked (checkedAt s (l .starts .counts))
     (λ defs next. onChecked (checkedAt s next) (λ refs end. rowCounts defs refs (l .rows)) (λ code. noCounts)) (λ code. noCounts)
 
 -- k items from an offset on, and what is made of each by its number and the offset after it

@@ -1,25 +1,29 @@
 // The sections of a deposit sheet: whether it is one, and where its items stand.
 ghost use mathlib.Core.Path.{_≡_};
-ghost use Prim.Native.Nat.{_≤_};
-ghost use lib.ListN.{length};
 ghost use Rattle.layout.specs.Layout.{sectionCount, itemAt, noteOf, sectionsOf, layoutOf, countsOf};
 use answer::MAX_SIZE;
 use grammar::MAX_ROWS;
 use number::checked::Checked;
 use number::token::Counts;
 use number::token::no_counts;
+use number::token::row_counts;
 
 // The most bytes of a sheet.
 pub const MAX_SHEET: usize = 65536;
 
 const SECTIONS: usize = 3;
 
-// Where the items of each section begin, how many blobs there are, which is the number of rows, and how many acknowledgements.
-pub struct Layout {
+// The offsets at which the items of each section begin.
+pub struct Starts {
     pub counts: usize,
     pub blobs: usize,
-    pub rows: u32,
     pub acks: usize,
+}
+
+// Where the items begin, how many blobs there are, which is the number of rows, and how many acknowledgements.
+pub struct Layout {
+    pub starts: Starts,
+    pub rows: u32,
     pub acknowledged: u32,
 }
 
@@ -58,14 +62,14 @@ fn note(layout: Layout, section: usize, count: u32, next: usize) -> Layout
     let mut l = layout;
     match section {
         0 => {
-            l.counts = next;
+            l.starts.counts = next;
         }
         1 => {
-            l.blobs = next;
+            l.starts.blobs = next;
             l.rows = count;
         }
         _ => {
-            l.acks = next;
+            l.starts.acks = next;
             l.acknowledged = count;
         }
     }
@@ -76,11 +80,14 @@ fn note(layout: Layout, section: usize, count: u32, next: usize) -> Layout
 fn sections_of(s: &[u8]) -> Parsed
     ensures { λ r. ⌜ r ≡ sectionsOf (now (s .entry)) ⌝ }
 {
-    let mut layout = Layout {
+    let starts = Starts {
         counts: 0,
         blobs: 0,
-        rows: 0,
         acks: 0,
+    };
+    let mut layout = Layout {
+        starts,
+        rows: 0,
         acknowledged: 0,
     };
     let mut at = 0;
@@ -127,16 +134,12 @@ pub fn layout_of(s: &[u8]) -> Parsed
 pub fn counts_of(s: &[u8], layout: Layout) -> Counts
     ensures { λ r. ⌜ r ≡ countsOf (now (s .entry)) layout ⌝ }
 {
-    match number::checked::checked_at(s, layout.counts) {
+    match number::checked::checked_at(s, layout.starts.counts) {
         Checked::Good { value: defs, next } => match number::checked::checked_at(s, next) {
             Checked::Good {
                 value: refs,
                 next: _,
-            } => Counts {
-                defs,
-                refs,
-                specs: layout.rows,
-            },
+            } => row_counts(defs, refs, layout.rows),
             Checked::Bad { refusal: _ } => no_counts(),
         },
         Checked::Bad { refusal: _ } => no_counts(),

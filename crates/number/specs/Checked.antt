@@ -1,6 +1,6 @@
 -- Document 01, "Numbers on the panel": the refusals of a number, 2 and 3, and of a count, 4.
 use Prim.Native.Nat.{ℕ}
-use mathlib.Core.List.{List}
+use mathlib.Core.List.{List, [], _∷_}
 use mathlib.Core.Bool.{cond, _&&_}
 use lib.Dec.{leb}
 use Rattle.number.specs.declared.Number.{Number}
@@ -19,6 +19,10 @@ checked TooLong = Bad 3
 unfoldable pub checkedAt : List ℕ → ℕ → Checked
 checkedAt s at = checked (numberAt s at)
 
+-- all that a number is refused by: "3 for its first byte, 2, 3 for length"
+abbrev pub numberRefusals : List ℕ
+numberRefusals = 2 ∷ 3 ∷ []
+
 -- what was read goes on with the value and the offset after it, or with the refusal's number
 abbrev pub onChecked : {A : Type 0} → Checked → (ℕ → ℕ → A) → (ℕ → A) → A
 onChecked (Good v next) good bad = good v next
@@ -30,3 +34,7 @@ countOf low high c = onChecked c (λ v next. cond (leb low v && leb v high) (Goo
 
 unfoldable pub countAt : (low high : ℕ) → List ℕ → ℕ → Checked
 countAt low high s at = countOf low high (checkedAt s at)
+
+-- all that a count is refused by: "then 4"
+abbrev pub countRefusals : List ℕ
+countRefusals = 4 ∷ numberRefusals

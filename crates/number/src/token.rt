@@ -1,12 +1,15 @@
 // Tokens: a row of one of three tables, as a number.
 ghost use mathlib.Core.Path.{_≡_};
-ghost use Rattle.number.specs.Token.{tagOf, rowOf, noCounts, rowsOf, tokenAt};
+ghost use Rattle.number.specs.Token.{tagOf, rowOf, rowCounts, noCounts, rowsOf, tokenAt};
 use crate::checked::Checked;
 
 // The tags below these are good in VALUETYPE, CLASS and GENERICINST, and in a modifier.
 pub const TYPE_TAGS: u32 = 2;
 
 pub const MOD_TAGS: u32 = 3;
+
+// The tag of TypeSpec's table.
+pub const TYPE_SPEC_TAG: u32 = 2;
 
 // The row counts of the tables TypeDef, TypeRef and TypeSpec.
 pub struct Counts {
@@ -15,15 +18,17 @@ pub struct Counts {
     pub specs: u32,
 }
 
+pub fn row_counts(defs: u32, refs: u32, specs: u32) -> Counts
+    ensures { λ r. ⌜ r ≡ rowCounts defs refs specs ⌝ }
+{
+    Counts { defs, refs, specs }
+}
+
 // No rows in any table.
 pub fn no_counts() -> Counts
     ensures { λ r. ⌜ r ≡ noCounts ⌝ }
 {
-    Counts {
-        defs: 0,
-        refs: 0,
-        specs: 0,
-    }
+    row_counts(0, 0, 0)
 }
 
 // A token is its row times 4 plus its tag.

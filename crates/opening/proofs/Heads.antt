@@ -2,19 +2,21 @@
 -- Assumes nothing.
 use Prim.Native.Nat.{ℕ, _+_, _≤_, _<_}
 use native.Mathlib.Omega.{arith}
-use mathlib.Core.Path.{_≡_, refl}
-use mathlib.Core.Bool.{true, false}
+use mathlib.Core.Path.{_≡_, refl, sym, subst, _∙_}
 use mathlib.Core.List.{List}
 use lib.ListN.{length, getD}
+use denote.Enum.Declared.{tagOf}
+use types.Run.{OneOf}
 use borrow.Author.Tests.{lt-ltb, le-ltb}
 use Rattle.number.specs.declared.token.Counts.{Counts}
-use Rattle.element.specs.Element.{allowed, leads, entries, lookup, formOf}
+use Rattle.element.specs.Element.{formOf}
 use Rattle.element.specs.declared.Place.{Place}
 use Rattle.element.specs.declared.Place.the-variants as Place
 use Rattle.element.specs.declared.Form.{Form}
 use Rattle.element.specs.declared.Form.the-variants.{Refused, Callable}
-use Rattle.element.proofs.Runs.{inside, outside, refused-form}
-use Rattle.element.proofs.Places.{led, unled}
+use Rattle.element.proofs.Form.{the-type}
+use Rattle.element.proofs.Runs.{inside, outside, refused-form, uncalled}
+use Rattle.element.proofs.Places.{unled}
 use Rattle.grammar.specs.Table.{METHOD, kindOf}
 use Rattle.opening.specs.Code.{codeAt}
 use Rattle.opening.specs.declared.Code.{Code}
@@ -55,14 +57,14 @@ module _ (d : ℕ) (s : List ℕ) (p : Place) (at n : ℕ) (y : Code) (e : y ≡
     lead-some k o h q = coded-some d s p at n Begun.Shut _ y e b g o (rw (← here b g .1, ← i, ← h) q) (λ a. rw (refused-form (formOf p (getD s at 0)) a))
 
 -- the method below a FNPTR
-module _ (d : ℕ) (s : List ℕ) (at n : ℕ) (y : Code) (e : y ≡ codeAt d s Place.FnPtrMethod at n) (b : ℕ) (g : y ≡ Code.Byte b) where
-  pub fn-ptr-lead-some : allowed (lookup leads b) ≡ true → (o : Begun) → o ≡ callAt s Place.Param METHOD 0 b (at + 1) → o ≡ leadAt d s Place.FnPtrMethod at n
-  unfolding leadForm formOf entries
-  fn-ptr-lead-some t o q = lead-some d s Place.FnPtrMethod at n y e b g (Callable Place.Param) (led b t) METHOD o refl q
+module _ (d : ℕ) (s : List ℕ) (at n : ℕ) (y : Code) (e : y ≡ codeAt d s Place.FnPtrMethod at n) (b : ℕ) (g : y ≡ Code.Byte b) (f : Form) (i : f ≡ formOf Place.FnPtrMethod b) where
+  pub fn-ptr-lead-some : (p : Place) → f ≡ Callable p → (o : Begun) → o ≡ callAt s p METHOD 0 b (at + 1) → o ≡ leadAt d s Place.FnPtrMethod at n
+  unfolding leadForm
+  fn-ptr-lead-some p h o q = lead-some d s Place.FnPtrMethod at n y e b g (Callable p) (sym h ∙ i) METHOD o refl q
 
-  pub fn-ptr-lead-none : allowed (lookup leads b) ≡ false → Begun.Shut 5 at ≡ leadAt d s Place.FnPtrMethod at n
-  unfolding leadForm formOf entries
-  fn-ptr-lead-none t = lead-some d s Place.FnPtrMethod at n y e b g Refused (unled b t) METHOD (Begun.Shut 5 at) refl refl
+  pub fn-ptr-lead-none : OneOf uncalled (tagOf the-type f) → Begun.Shut 5 at ≡ leadAt d s Place.FnPtrMethod at n
+  unfolding leadForm
+  fn-ptr-lead-none h = lead-some d s Place.FnPtrMethod at n y e b g Refused (sym (unled b (subst (λ (x : Form). OneOf uncalled (tagOf the-type x)) i h))) METHOD (Begun.Shut 5 at) refl refl
 
 -- ---- instance_at
 

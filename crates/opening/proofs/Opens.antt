@@ -15,7 +15,7 @@ use Rattle.number.specs.Token.{typeTags, modTags, tokenAt}
 use Rattle.number.specs.declared.checked.Checked.{Checked}
 use Rattle.number.specs.declared.token.Counts.{Counts}
 use Rattle.number.proofs.Checks.{checked-through, checked-test}
-use Rattle.element.specs.Element.{allowed, within, bare, leads, entries, formOf, places, isTypePlace}
+use Rattle.element.specs.Element.{allowed, within, bare, leads, entries, formOf, isTypePlace}
 use Rattle.element.specs.declared.Place.{Place}
 use Rattle.element.specs.declared.Place.the-variants as Place
 use Rattle.element.specs.declared.Form.{Form}
@@ -23,7 +23,8 @@ use Rattle.element.specs.declared.Form.the-variants.{Refused, Leaf, Named, Vari
 use Rattle.grammar.specs.Limits.{maxNodes}
 use Rattle.grammar.specs.Table.{entry, kindOf}
 use Rattle.grammar.specs.Judge.{Out, fault, done, bind, check, numbered, many, Reader, callable, body, opened, node}
-use Rattle.element.proofs.Places.{at-type, isFnPtrMethod, fn-ptr-method, typeForm, signatureForm, type-form, signature-form}
+use Rattle.element.proofs.Places.{isFnPtrMethod, fn-ptr-method, typeForm, signatureForm, type-form, signature-form}
+use Rattle.grammar.proofs.Places.{type-kind}
 use Rattle.grammar.proofs.Sound.{both-left, both-right}
 use Rattle.grammar.proofs.Complete.{both}
 use Rattle.opening.specs.Code.{coded}
@@ -157,11 +158,6 @@ module _ (read : Reader) (d : ℕ) (s : List ℕ) (counts : Counts) (at n : ℕ)
       (λ c next. list-open (headOf b v (getD s (at + 1) 0) c) next))))
   body-open b (Callable p) t = cc
   body-open b (Generic p) t = cc
-
--- in a place of a type the kind is the byte
-type-kind : (p : Place) (b : ℕ) → isTypePlace p ≡ true → kindOf p b ≡ b
-unfolding formOf entries bare leads places
-type-kind p b t = at-type 0 (λ q. kindOf q b) (λ q. b) refl p t
 
 -- ---- signatures
 

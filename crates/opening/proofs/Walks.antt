@@ -4,12 +4,12 @@ use Prim.Native.Nat.{ℕ, zero, suc, _+_, _-_, _≤_, _<_}
 use native.Mathlib.Omega.{arith}
 use mathlib.Core.Path.{_≡_, refl, sym, ap, subst, _∙_}
 use mathlib.Core.List.{List, [], _++_}
-use lib.ListN.{length}
+use lib.ListN.{length, length-append}
 use Rattle.grammar.specs.Limits.{maxNodes}
 use Rattle.grammar.specs.Judge.{Out, fault, done, bind, many}
 use Rattle.grammar.specs.declared.Node.{Node}
-use Rattle.grammar.proofs.Sound.{Holds, holds}
-use Rattle.grammar.proofs.Bounds.{Ends}
+use Rattle.grammar.proofs.Sound.{Holds, stopped, holds, holds-bind}
+use Rattle.grammar.proofs.Bounds.{Ends, ends-many}
 use Rattle.opening.specs.Means.{recordOf, sealed, andThen, series}
 use Rattle.opening.specs.Table.{putOf, stamp, smallOf, sealsOf, Sealed}
 use Rattle.opening.specs.Walk.{leaves, walkOf, Walked}
@@ -94,25 +94,20 @@ walked-then (done e₁ m₁ rs) k n e m r o₀ o₁ o₂ (holds g) h w =
     walked-after (k e₁ m₁) n m₁ rs r o₀ o₁ o₂ (g .1) (h .left)
     (subst (λ (j : ℕ). Walked (k e₁ j) j r o₁ o₂) b (subst (λ (i : ℕ). Walked (k i m) m r o₁ o₂) a w))
 
+pub walked-small : (o : Out) (n : ℕ) (w : Walk) (o₀ o₁ : List ℕ) → Holds (Ends n) o → Walked o n w o₀ o₁ → smallOf w
+unfolding walkOf
+walked-small (fault c p) n w o₀ o₁ g h = subst smallOf (sym (h .result)) tt
+walked-small (done e m rs) n w o₀ o₁ (holds g) h = subst smallOf (sym (h .result)) (omega (arith, g .0))
+
 -- the index after a walk that went on
 pub walked-next : (o : Out) (n e m : ℕ) (o₀ o₁ : List ℕ) → Holds (Ends n) o → Walked o n (Next e m) o₀ o₁ → m ≤ maxNodes
-unfolding walkOf
-walked-next (fault c p) n e m o₀ o₁ g h = clash (sym (h .result))
-walked-next (done e₁ m₁ rs) n e m o₀ o₁ (holds g) h =
-    let x : Next e m ≡ Next e₁ m₁ = h .result in
-    let b : m ≡ m₁ = cc in
-    omega (arith, g .0)
+walked-next o n e m o₀ o₁ g h = walked-small o n (Next e m) o₀ o₁ g h
 
 -- the index before it
 pub walked-first : (o : Out) (n e m : ℕ) (o₀ o₁ : List ℕ) → Holds (Ends n) o → Walked o n (Next e m) o₀ o₁ → n ≤ maxNodes
 unfolding walkOf
 walked-first (fault c p) n e m o₀ o₁ g h = clash (sym (h .result))
 walked-first (done e₁ m₁ rs) n e m o₀ o₁ (holds g) h = omega (arith, g .0, g .1)
-
-pub walked-small : (o : Out) (n : ℕ) (w : Walk) (o₀ o₁ : List ℕ) → Holds (Ends n) o → Walked o n w o₀ o₁ → smallOf w
-unfolding walkOf
-walked-small (fault c p) n w o₀ o₁ g h = subst smallOf (sym (h .result)) tt
-walked-small (done e m rs) n w o₀ o₁ (holds g) h = subst smallOf (sym (h .result)) (omega (arith, g .0))
 
 -- ---- a loop over a count, whose first item may be another
 
@@ -132,6 +127,15 @@ pub series-end : (f g : ℕ → ℕ → Out) (left e m : ℕ) (o : List ℕ) →
 unfolding series
 series-end f g zero e m o h = still e m m o
 series-end f g (suc i) e m o h = absurd (omega arith)
+
+pub ends-series : (f g : ℕ → ℕ → Out) → ((at n : ℕ) → Holds (Ends n) (f at n)) → ((at n : ℕ) → Holds (Ends n) (g at n)) → (k at n : ℕ) → n ≤ maxNodes → Holds (Ends n) (series f g k at n)
+unfolding series andThen
+ends-series f g a b zero at n j = holds {rs = []} (j, omega arith)
+ends-series f g a b (suc k) at n j = go (f at n) (a at n)
+  where
+    go : (o : Out) → Holds (Ends n) o → Holds (Ends n) (andThen o (many g k))
+    go (fault c p) h = stopped
+    go (done e m rs) (holds h) = holds-bind (many g k e m) _ (ends-many g b k e m (h .0)) (λ e₂ m₂ ts q. holds {rs = rs ++ ts} (q .0, omega (arith, h, q, length-append rs ts)))
 
 -- ---- a loop over a count, of one sort of item
 

@@ -2,6 +2,7 @@
 // stands behind an array's type, and puts records into the table. Types and signatures are read apart: a walk is in the one for most nodes.
 ghost use mathlib.Core.Path.{_≡_};
 ghost use Rattle.opening.specs.Code.{crowdedOf, codeAt};
+ghost use Rattle.opening.specs.Open.{headOf};
 use element::Place;
 use grammar::MAX_NODES;
 
@@ -16,6 +17,17 @@ pub struct Head {
     pub a: u32,
     pub b: u32,
     pub children: u32,
+}
+
+pub fn head_of(kind: u32, a: u32, b: u32, children: u32) -> Head
+    ensures { λ r. ⌜ r ≡ headOf kind a b children ⌝ }
+{
+    Head {
+        kind,
+        a,
+        b,
+        children,
+    }
 }
 
 // Where a walk goes on, with the index of the next node; or the refusal's number and offset.

@@ -8,6 +8,7 @@ ghost use Rattle.opening.specs.Walk.{Walked};
 ghost use Rattle.opening.specs.Shape.{boundAt, lowsAt, shapeAt, Shaped};
 use crate::Head;
 use crate::Walk;
+use crate::head_of;
 use crate::table::childless;
 use grammar::LOW;
 use grammar::MAX_NODES;
@@ -42,13 +43,7 @@ fn bound_of(
     if MAX_NODES <= n {
         return Walk::Stop { refusal: 10, at };
     }
-    let head = Head {
-        kind,
-        a: value,
-        b: 0,
-        children: 0,
-    };
-    childless(out, n, head, at, next)
+    childless(out, n, head_of(kind, value, 0, 0), at, next)
 }
 
 fn size_at(out: &mut [u32], d: usize, src: &[u8], at: usize, n: usize) -> Walk

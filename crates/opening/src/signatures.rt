@@ -130,10 +130,11 @@ pub fn fn_ptr_lead_at(src: &[u8], at: usize, n: usize, d: usize) -> Begun
     match crate::code_at(src, Place::FnPtrMethod, at, n, d) {
         Code::Shut { refusal } => Begun::Shut { refusal, at },
         Code::Byte { byte } => {
-            if element::is_lead(byte) {
-                return call_at(src, Place::Param, METHOD, 0, byte, at + 1);
+            let form = element::fn_ptr_method_form(byte);
+            match form {
+                Form::Callable(params) => call_at(src, params, METHOD, 0, byte, at + 1),
+                _ => Begun::Shut { refusal: 5, at },
             }
-            Begun::Shut { refusal: 5, at }
         }
     }
 }

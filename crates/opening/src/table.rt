@@ -15,19 +15,19 @@ fn size32(x: usize) -> u32
     x as u32
 }
 
-// Stores the six numbers of a node at its place in the table, where they fit.
-fn put(out: &mut [u32], n: usize, node: Node)
+// Stores the six numbers of a record at its place in the table, where they fit.
+fn put(out: &mut [u32], n: usize, rec: Node)
     requires { ⌜ n < maxNodes ⌝ }
-    ensures { λ _. ⌜ now (out .exit) ≡ putOf (now (out .entry)) n node ⌝ }
+    ensures { λ _. ⌜ now (out .exit) ≡ putOf (now (out .entry)) n rec ⌝ }
 {
     let i = 6 * n;
     if i + 6 <= out.len() {
-        out[i] = node.kind;
-        out[i + 1] = node.a;
-        out[i + 2] = node.b;
-        out[i + 3] = node.children;
-        out[i + 4] = node.at;
-        out[i + 5] = node.after;
+        out[i] = rec.kind;
+        out[i + 1] = rec.a;
+        out[i + 2] = rec.b;
+        out[i + 3] = rec.children;
+        out[i + 4] = rec.at;
+        out[i + 5] = rec.after;
     }
 }
 

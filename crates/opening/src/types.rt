@@ -4,9 +4,10 @@ ghost use mathlib.Core.Bool.{true};
 ghost use Prim.Native.Nat.{_+_, _<_};
 ghost use lib.ListN.{length};
 ghost use Rattle.element.specs.Element.{isTypePlace};
-ghost use Rattle.opening.specs.Open.{headOf, valuedOf, modifiedOf, listedOf, wrappedOf, instanceOf, instanceAt, headAt, openAt};
+ghost use Rattle.opening.specs.Open.{valuedOf, modifiedOf, listedOf, wrappedOf, instanceOf, instanceAt, headAt, openAt};
 use crate::Code;
 use crate::Head;
+use crate::head_of;
 use element::Form;
 use element::Place;
 use element::types::is_type_place;
@@ -46,17 +47,6 @@ pub enum Open {
     Array {
         kind: u32,
     },
-}
-
-fn head_of(kind: u32, a: u32, b: u32, children: u32) -> Head
-    ensures { λ r. ⌜ r ≡ headOf kind a b children ⌝ }
-{
-    Head {
-        kind,
-        a,
-        b,
-        children,
-    }
 }
 
 // A number or token, which stands at `from`, and no children.

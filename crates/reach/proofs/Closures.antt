@@ -14,7 +14,7 @@ use lib.Bits.{bitOr}
 use native.Mathlib.Numerals.{add-one}
 use Rattle.reach.specs.Reach.{thru}
 use Rattle.reach.specs.Closure.{ClosureOf}
-use Rattle.bits.specs.Bits.{bitAt, bit}
+use Rattle.bits.specs.Bits.{wordBits, bitAt, bit}
 use Rattle.reach.specs.Closing.{Written, Copied, RowsCopied, Ored, RowRelaxed, Relaxed}
 use Rattle.bits.proofs.BitLaws.{Apart, word-lt, pos-apart, bit-or}
 use Rattle.reach.proofs.Reaching.{thru-cong}
@@ -49,9 +49,9 @@ unfolding bitAt
 rows-copied-more {w} {v} {i} {l₀} {t} {l} {l′} a b = record {
   len = b .len ∙ a .len;
   done = λ r s h hs. by-cases (ℕ-discrete r i)
-      (λ (e : r ≡ i). subst (λ (x : ℕ). bit (getD l′ (x * w + s / 32) 0) (s % 32) ≡ bit (getD t (x * v + s / 32) 0) (s % 32)) (sym e)
-      (ap (λ (x : ℕ). bit x (s % 32)) (b .done (s / 32) (word-lt hs))))
-      (λ ne. ap (λ (x : ℕ). bit x (s % 32)) (b .rest (r * w + s / 32) (pos-apart w r i (s / 32) ne (word-lt hs))) ∙ a .done r s (omega arith) hs);
+      (λ (e : r ≡ i). subst (λ (x : ℕ). bit (getD l′ (x * w + s / wordBits) 0) (s % wordBits) ≡ bit (getD t (x * v + s / wordBits) 0) (s % wordBits)) (sym e)
+      (ap (λ (x : ℕ). bit x (s % wordBits)) (b .done (s / wordBits) (word-lt hs))))
+      (λ ne. ap (λ (x : ℕ). bit x (s % wordBits)) (b .rest (r * w + s / wordBits) (pos-apart w r i (s / wordBits) ne (word-lt hs))) ∙ a .done r s (omega arith) hs);
 }
 
 -- ---- rows
@@ -60,8 +60,8 @@ module _ (w k i : ℕ) (l₀ l : List ℕ) where
   unfolding bitAt
   relaxed-or hk o = record {
     len = o .len;
-    here = λ s hs. rw (hk, o .done (s / 32) (word-lt hs)) (bit-or _ _ _);
-    others = λ r s ne hs. ap (λ (x : ℕ). bit x (s % 32)) (o .rest (r * w + s / 32) (pos-apart w r i (s / 32) ne (word-lt hs)));
+    here = λ s hs. rw (hk, o .done (s / wordBits) (word-lt hs)) (bit-or _ _ _);
+    others = λ r s ne hs. ap (λ (x : ℕ). bit x (s % wordBits)) (o .rest (r * w + s / wordBits) (pos-apart w r i (s / wordBits) ne (word-lt hs)));
   }
 
   pub relaxed-not : bitAt w l₀ i k ≡ false → RowRelaxed w k i l₀ l₀
@@ -78,13 +78,13 @@ relaxed-self w k l = record { len = refl; here = λ s hs. absorb (bitAt w l k s)
 pub relaxed-none : (w n k : ℕ) (l : List ℕ) → Relaxed w n k l 0 l
 relaxed-none w n k l = record { len = refl; done = λ r s h hs. absurd (omega arith); rest = λ r s h hn hs. refl }
 
-module _ {w n k i : ℕ} {l₀ l l′ : List ℕ} (a : Relaxed w n k l₀ i l) (b : RowRelaxed w k i l l′) (hi : i < n) (hk : k < n) (nw : n ≤ 32 * w) where
+module _ {w n k i : ℕ} {l₀ l l′ : List ℕ} (a : Relaxed w n k l₀ i l) (b : RowRelaxed w k i l l′) (hi : i < n) (hk : k < n) (nw : n ≤ wordBits * w) where
   -- row k is as it was
-  row-k : (s : ℕ) → s < 32 * w → bitAt w l k s ≡ bitAt w l₀ k s
+  row-k : (s : ℕ) → s < wordBits * w → bitAt w l k s ≡ bitAt w l₀ k s
   row-k s hs =
       by-cases (decLt k i) (λ (h : k < i). a .done k s h hs ∙ sym (absorb (bitAt w l₀ k s) (bitAt w l₀ k k))) (λ nh. a .rest k s (omega arith) hk hs)
 
-  row-i : (s : ℕ) → s < 32 * w → bitAt w l′ i s ≡ (bitAt w l₀ i s || (bitAt w l₀ i k && bitAt w l₀ k s))
+  row-i : (s : ℕ) → s < wordBits * w → bitAt w l′ i s ≡ (bitAt w l₀ i s || (bitAt w l₀ i k && bitAt w l₀ k s))
   row-i s hs =
       let e₁ : bitAt w l i s ≡ bitAt w l₀ i s = a .rest i s (le-refl i) hi hs in
       let e₂ : bitAt w l i k ≡ bitAt w l₀ i k = a .rest i k (le-refl i) hi (omega arith) in
@@ -101,18 +101,18 @@ module _ {w n k i : ℕ} {l₀ l l′ : List ℕ} (a : Relaxed w n k l₀ i l) (
 
 -- l holds what l₀ reaches by rows below k
 abbrev pub Closed : ℕ → ℕ → List ℕ → ℕ → List ℕ → Type 0
-Closed w n l₀ k l = (r s : ℕ) → r < n → s < 32 * w → bitAt w l r s ≡ thru (bitAt w l₀) k r s
+Closed w n l₀ k l = (r s : ℕ) → r < n → s < wordBits * w → bitAt w l r s ≡ thru (bitAt w l₀) k r s
 
 pub closed-none : (w n : ℕ) (l : List ℕ) → Closed w n l 0 l
 unfolding thru
 closed-none w n l r s hr hs = refl
 
-pub closed-more : (w n k : ℕ) (l₀ l l′ : List ℕ) → n ≤ 32 * w → k < n → Closed w n l₀ k l → Relaxed w n k l n l′ → Closed w n l₀ (k + 1) l′
+pub closed-more : (w n k : ℕ) (l₀ l l′ : List ℕ) → n ≤ wordBits * w → k < n → Closed w n l₀ k l → Relaxed w n k l n l′ → Closed w n l₀ (k + 1) l′
 unfolding thru
 closed-more w n k l₀ l l′ nw hk c x r s hr hs =
     rw add-one (x .done r s hr hs ∙ rw (c r s hr hs, c r k hr (omega arith), c k s hk hs))
 
 -- a copy of the n rows, closed
-pub closure-of : (w v n : ℕ) (sets l₀ l m : List ℕ) → n ≤ 32 * w → RowsCopied w v l₀ sets n l → Closed w n l n m → ClosureOf w v n sets m
+pub closure-of : (w v n : ℕ) (sets l₀ l m : List ℕ) → n ≤ wordBits * w → RowsCopied w v l₀ sets n l → Closed w n l n m → ClosureOf w v n sets m
 closure-of w v n sets l₀ l m nw h c r s hr hs =
     c r s hr (omega arith) ∙ thru-cong n (bitAt w l) (bitAt v sets) (λ i j hi hj. h .done i j hi (omega arith)) n (le-refl n) r s hr hs

@@ -6,8 +6,8 @@ use mathlib.Core.Bool.{true, _&&_}
 use mathlib.Core.Logic.{_⊎_, inl, inr, ⊎-elim, by-cases, _↔_}
 use native.Mathlib.Omega.{arith}
 use native.Mathlib.Decide.{ℕ-discrete}
+use Rattle.bits.proofs.Bools.{or-cases, and-both, or-left, or-right, both}
 use Rattle.reach.specs.Reach.{Graph, Reach, one, step, thru}
-use Rattle.reach.proofs.Bools.{or-cases, and-both, or-left, or-right, both}
 
 -- chains one after the other
 pub join : {g : Graph} {r m s : ℕ} → Reach g r m → Reach g m s → Reach g r s

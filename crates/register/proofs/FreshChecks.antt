@@ -11,11 +11,11 @@ use native.Mathlib.Omega.{arith}
 use native.Mathlib.Decide.{ℕ-discrete}
 use lib.Dec.{ltb, eqb}
 use borrow.Author.Tests.{ne-eqb, ltb-true}
+use Rattle.bits.proofs.Bools.{bool-ext, or-cases, or-right, and-both, both}
+use Rattle.bits.proofs.Any.{any-cong, any-intro, any-elim}
 use Rattle.reach.specs.Reach.{Reach, thru}
 use Rattle.standing.specs.Standing.{trouble, leaning, standing}
-use Rattle.reach.proofs.Bools.{bool-ext, or-cases, or-right, and-both, both}
 use Rattle.reach.proofs.Reaching.{thru-decides, AgreeOff, reach-to, reach-off, join}
-use Rattle.standing.proofs.Standings.{any-cong, any-intro, any-elim}
 use Rattle.grammar.specs.Judge.{Out, fault, done}
 use Rattle.filing.specs.Outcome.{judged, stateOf, namesRow}
 use Rattle.register.specs.Model.{Model, check, outcome, stateM, refersM, standingM, touched, filedM}

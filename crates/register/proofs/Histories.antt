@@ -10,8 +10,8 @@ use native.Mathlib.Omega.{arith}
 use native.Mathlib.Decide.{ℕ-discrete}
 use lib.Dec.{eqb}
 use borrow.Author.Tests.{eq-eqb, ne-eqb, eqb-true, eqb-false}
+use Rattle.bits.proofs.Bools.{or-left, or-right}
 use Rattle.reach.specs.Reach.{Reach}
-use Rattle.reach.proofs.Bools.{or-left, or-right}
 use Rattle.number.specs.Token.{noCounts}
 use Rattle.number.specs.declared.token.Counts.{Counts}
 use Rattle.answer.specs.Answers.{rowCode}

@@ -3,7 +3,7 @@
 -- Assumes nothing.
 use Prim.Native.Nat.{ℕ, _-_, _*_}
 use mathlib.Core.Path.{_≡_, refl}
-use mathlib.Core.List.{List, _∷_}
+use mathlib.Core.List.{List, [], _∷_, _++_}
 use mathlib.Core.Bool.{Bool, true, false, cond, _||_}
 use lib.ListN.{length, getD}
 use lib.Dec.{T, ltb, eqb}
@@ -16,7 +16,7 @@ use Rattle.answer.specs.Answers.{rowCode, admitCode, ackCode, told}
 use Rattle.answer.proofs.Admits.{by-code}
 use Rattle.register.specs.declared.Register.{Register}
 use Rattle.register.specs.declared.Changed.{Changed}
-use Rattle.register.specs.Refusals.{openRefusals, callRefusals, ackRefusals}
+use Rattle.register.specs.Refusals.{openRefusals, callRefusals, ackOwn, ackRefusals}
 use Rattle.register.specs.Calls.{Left, left, blankRegister, changed, tooMany, openCode, openOf, fileOf, standingAt, marked, acknowledgeAt, acknowledgeOf, askAt, askOf}
 
 -- opened, or refused with a register of 0 rows and the numbers as they were
@@ -60,12 +60,13 @@ refuses lent rows row = go (ltb maxSize rows) (ltb lent (rows * words)) (eqb row
     go false false false ne = absurd (ne refl)
 
 -- a number of a list is one of a longer list
-more : (x n : ℕ) (xs : List ℕ) → T (among xs n) → T (among (x ∷ xs) n)
-more x n xs h = go (eqb n x)
+more : (xs ys : List ℕ) (n : ℕ) → T (among ys n) → T (among (xs ++ ys) n)
+more [] ys n h = h
+more (x ∷ xs) ys n h = go (eqb n x) (more xs ys n h)
   where
-    go : (t : Bool) → T (t || among xs n)
-    go true = tt
-    go false = h
+    go : (t : Bool) → T (among (xs ++ ys) n) → T (t || among (xs ++ ys) n)
+    go true k = tt
+    go false k = k
 
 pub open-answers : (counts : Counts) (l : List ℕ) → Opening l (openOf counts l)
 unfolding openOf
@@ -92,7 +93,7 @@ module _ (g : Register) (l : List ℕ) (row : ℕ) where
   unfolding acknowledgeOf
   ack-answers =
       by-code (Acknowledging g) admitted (λ z. ack-at (row - 1))
-      (λ ne. refused (more 17 admitted (18 ∷ callRefusals) (more 18 admitted callRefusals (refuses (length l) (g .counts .specs) row ne))))
+      (λ ne. refused (more ackOwn callRefusals admitted (refuses (length l) (g .counts .specs) row ne)))
 
   pub ask-answers : Asking (askOf g row l)
   unfolding askOf askAt

@@ -8,8 +8,9 @@ use lib.ListN.{length, getD, replicate, length-replicate}
 use lib.Dec.{ltb}
 use native.Mathlib.Omega.{arith}
 use borrow.Author.Tests.{lt-ltb, le-ltb}
-use Rattle.reach.proofs.Bools.{or-right}
-use Rattle.standing.specs.Standing.{any, filled, markedIn}
+use Rattle.bits.specs.Any.{any}
+use Rattle.bits.proofs.Bools.{or-right}
+use Rattle.standing.specs.Standing.{filled, markedIn}
 use Rattle.standing.proofs.Standings.{cleared-unmarked, getD-filled}
 use Rattle.answer.specs.Size.{maxSize, words}
 use Rattle.register.specs.Calls.{marksAfter, standingAt, standingsOf}

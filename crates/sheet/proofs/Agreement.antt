@@ -37,7 +37,7 @@ filed-provided (blob ∷ blobs) h row f = filed-provided blobs (held (fileOf (h 
 
 pub register-provided : (s : List ℕ) (l : Layout) (sets : List ℕ) → Provided (registerOf s l sets)
 unfolding registerOf
-register-provided s l sets = filed-provided (blobsFrom (l .rows) s (l .blobs)) (held (openOf (countsOf s l) sets)) 1 (open-provided (countsOf s l) sets)
+register-provided s l sets = filed-provided (blobsFrom (l .rows) s (l .starts .blobs)) (held (openOf (countsOf s l) sets)) 1 (open-provided (countsOf s l) sets)
 
 -- ---- acknowledgements on a register that has other marks
 abbrev withMarks : Register → List ℕ → Register

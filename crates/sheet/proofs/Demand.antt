@@ -110,10 +110,10 @@ opened-rows counts d r l u =
 
 -- the print of an accepted sheet is the model's, of the counts, blobs and rows that spell it
 pub sheet-model : (s : List ℕ) → Bytes s → (l : Layout) → layoutOf s ≡ Accepted l
-    → textOf s ≡ textM (countsOf s l) (blobsFrom (l .rows) s (l .blobs)) (acksFrom (l .acknowledged) s (l .acks))
+    → textOf s ≡ textM (countsOf s l) (blobsFrom (l .rows) s (l .starts .blobs)) (acksFrom (l .acknowledged) s (l .starts .acks))
 unfolding textOf registerOf
 sheet-model s bytes l e =
     let h = sheet-sound s bytes l e in
     ap (textFor s) e
-    ∙ print-model (countsOf s l) (blobsFrom (l .rows) s (l .blobs)) (acksFrom (l .acknowledged) s (l .acks))
+    ∙ print-model (countsOf s l) (blobsFrom (l .rows) s (l .starts .blobs)) (acksFrom (l .acknowledged) s (l .starts .acks))
     (opened-rows (countsOf s l) (h .defs-few) (h .refs-few) (omega (arith, h .rows, h .some-blobs)) (omega (arith, h .rows, h .few-blobs)))

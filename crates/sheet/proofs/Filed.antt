@@ -28,7 +28,7 @@ module _ {w : Held} (g : Register) (l : List ℕ) (row : ℕ) (blobs : List (Lis
 
 -- the register of an accepted sheet, step by step
 pub register-is : (s : List ℕ) (l : Layout) {counts : Counts} {c : Changed} {g : Held} (sets m : List ℕ) → counts ≡ countsOf s l → left c m ≡ openOf counts sets
-    → g ≡ fileAll (holding (c .register) m) 1 (blobsFrom (l .rows) s (l .blobs)) → g ≡ registerOf s l sets
+    → g ≡ fileAll (holding (c .register) m) 1 (blobsFrom (l .rows) s (l .starts .blobs)) → g ≡ registerOf s l sets
 unfolding registerOf
 register-is s l sets m ek ec eg =
-    eg ∙ ap (λ (y : Left). fileAll (held y) 1 (blobsFrom (l .rows) s (l .blobs))) (ec ∙ ap (λ (k : Counts). openOf k sets) ek)
+    eg ∙ ap (λ (y : Left). fileAll (held y) 1 (blobsFrom (l .rows) s (l .starts .blobs))) (ec ∙ ap (λ (k : Counts). openOf k sets) ek)

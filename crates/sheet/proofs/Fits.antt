@@ -6,14 +6,15 @@ use mathlib.Core.List.{List, _++_}
 use native.Mathlib.Omega.{arith}
 use lib.ListN.{length, drop, length-append}
 use lib.Seq.{sets-eq}
-use borrow.Author.Tests.{lt-ltb, le-ltb}
+use borrow.Author.Tests.{lt-leb, le-leb}
 use Rattle.answer.specs.Answers.{answer}
+use Rattle.answer.specs.Written.{answerOf, outputOf}
 use Rattle.register.specs.declared.Register.{Register}
 use Rattle.sheet.specs.Lines.{header}
 use Rattle.sheet.specs.Acks.{acksBy, ackedMarks}
 use Rattle.sheet.specs.Rows.{rowsBy, printedBy}
 use Rattle.text.specs.Printing.{maxOffset, further, laid}
-use Rattle.sheet.specs.Text.{answered, outputOf, Runs}
+use Rattle.sheet.specs.Text.{Runs}
 use Rattle.text.proofs.Laying.{further-is, further-add, laid-sets}
 
 module _ (text : List ℕ) (h : length text ≤ maxOffset) {needed : ℕ} (e : needed ≡ further 0 (length text)) (out : List ℕ) where
@@ -21,13 +22,13 @@ module _ (text : List ℕ) (h : length text ≤ maxOffset) {needed : ℕ} (e : n
   needs = let z : 0 + length text ≡ length text = omega arith in e ∙ further-is (length text) 0 (omega arith) ∙ z
 
   pub runs-short : length out < needed → Runs text (answer 15 needed) out out
-  unfolding answered outputOf
-  runs-short k = let l = lt-ltb (length out) (length text) (omega (arith, needs)) in (rw l (ap (λ n. answer 15 n) needs), rw l refl)
+  unfolding Runs answerOf outputOf
+  runs-short k = let l = lt-leb (length text) (length out) (omega (arith, needs)) in (rw l (ap (λ n. answer 15 n) needs), rw l refl)
 
   pub runs-fits : needed ≤ length out → {new : List ℕ} → new ≡ laid out 0 text → Runs text (answer 0 needed) out new
-  unfolding answered outputOf
+  unfolding Runs answerOf outputOf
   runs-fits k en =
-      let l = le-ltb (length out) (length text) (omega (arith, needs)) in
+      let l = le-leb (length text) (length out) (omega (arith, needs)) in
       let z : 0 + length text ≡ length text = omega arith in
       (rw l (ap (λ n. answer 0 n) needs), rw l (en ∙ laid-sets text out 0 (omega arith) ∙ sets-eq text out 0 (omega (arith, needs)) ∙ ap (λ k. text ++ drop k out) z))
 

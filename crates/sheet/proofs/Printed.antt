@@ -31,27 +31,27 @@ module _ (s : List ℕ) (l : Layout) {g : Register} {sets : List ℕ} (eg : hold
   rows-fit = provided .size
 
 module _ (s : List ℕ) (l : Layout) {g : Register} {sets : List ℕ} (eg : holding g sets ≡ registerOf s l ownSets) {standings : List ℕ} (es : standings ≡ standingsOf g sets) (h : l .acknowledged < 2 ^ 32)
-    {needed : ℕ} (en : needed ≡ further 0 (length (printedBy g standings (g .marks) (acksFrom (l .acknowledged) s (l .acks))))) (out : List ℕ) where
-  by-register : printedBy g standings (g .marks) (acksFrom (l .acknowledged) s (l .acks)) ≡ acceptedText s l
+    {needed : ℕ} (en : needed ≡ further 0 (length (printedBy g standings (g .marks) (acksFrom (l .acknowledged) s (l .starts .acks))))) (out : List ℕ) where
+  by-register : printedBy g standings (g .marks) (acksFrom (l .acknowledged) s (l .starts .acks)) ≡ acceptedText s l
   by-register =
-      ap (λ (y : List ℕ). printedBy g y (g .marks) (acksFrom (l .acknowledged) s (l .acks))) es
-      ∙ sym (printed-agree g sets (provided s l eg .size) (provided s l eg .enough) (acksFrom (l .acknowledged) s (l .acks)))
-      ∙ ap (λ (y : Held). printed y (acksFrom (l .acknowledged) s (l .acks))) eg
+      ap (λ (y : List ℕ). printedBy g y (g .marks) (acksFrom (l .acknowledged) s (l .starts .acks))) es
+      ∙ sym (printed-agree g sets (provided s l eg .size) (provided s l eg .enough) (acksFrom (l .acknowledged) s (l .starts .acks)))
+      ∙ ap (λ (y : Held). printed y (acksFrom (l .acknowledged) s (l .starts .acks))) eg
 
-  bound : length (printedBy g standings (g .marks) (acksFrom (l .acknowledged) s (l .acks))) ≤ maxOffset
-  bound = printed-length g (rows-fit s l eg) standings (g .marks) (l .acknowledged) h s (l .acks)
+  bound : length (printedBy g standings (g .marks) (acksFrom (l .acknowledged) s (l .starts .acks))) ≤ maxOffset
+  bound = printed-length g (rows-fit s l eg) standings (g .marks) (l .acknowledged) h s (l .starts .acks)
 
   pub print-short : length out < needed → Runs (acceptedText s l) (answer 15 needed) out out
   print-short k = subst (λ t. Runs t (answer 15 needed) out out) by-register (runs-short _ bound en out k)
 
-  pub print-fits : needed ≤ length out → {marks : List ℕ} → marks ≡ ackedMarks standings (g .counts .specs) (g .marks) (acksFrom (l .acknowledged) s (l .acks))
-      → {new : List ℕ} → new ≡ laid out 0 (header ++ rowsBy g standings marks (g .counts .specs) 0 ++ acksBy standings (g .counts .specs) (g .marks) (acksFrom (l .acknowledged) s (l .acks)))
+  pub print-fits : needed ≤ length out → {marks : List ℕ} → marks ≡ ackedMarks standings (g .counts .specs) (g .marks) (acksFrom (l .acknowledged) s (l .starts .acks))
+      → {new : List ℕ} → new ≡ laid out 0 (header ++ rowsBy g standings marks (g .counts .specs) 0 ++ acksBy standings (g .counts .specs) (g .marks) (acksFrom (l .acknowledged) s (l .starts .acks)))
       → Runs (acceptedText s l) (answer 0 needed) out new
   unfolding printedBy
   print-fits k em {new} e =
       subst (λ t. Runs t (answer 0 needed) out new) by-register
       (runs-fits _ bound en out k
-      (e ∙ ap (λ m. laid out 0 (header ++ rowsBy g standings m (g .counts .specs) 0 ++ acksBy standings (g .counts .specs) (g .marks) (acksFrom (l .acknowledged) s (l .acks)))) em))
+      (e ∙ ap (λ m. laid out 0 (header ++ rowsBy g standings m (g .counts .specs) 0 ++ acksBy standings (g .counts .specs) (g .marks) (acksFrom (l .acknowledged) s (l .starts .acks)))) em))
 
 pub runs-layout : (s : List ℕ) {p q : Parsed} → p ≡ layoutOf s → p ≡ q → (r : Answer) (old new : List ℕ) → Runs (textFor s q) r old new → Runs (textOf s) r old new
 unfolding textOf

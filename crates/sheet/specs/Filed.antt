@@ -12,4 +12,4 @@ fileAll h row (blob ∷ blobs) = fileAll (held (fileOf (h .register) row blob (h
 
 -- the register of an accepted sheet, all blobs filed, with these numbers lent
 unfoldable pub registerOf : List ℕ → Layout → List ℕ → Held
-registerOf s l sets = fileAll (held (openOf (countsOf s l) sets)) 1 (blobsFrom (l .rows) s (l .blobs))
+registerOf s l sets = fileAll (held (openOf (countsOf s l) sets)) 1 (blobsFrom (l .rows) s (l .starts .blobs))

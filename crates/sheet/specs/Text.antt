@@ -1,12 +1,9 @@
 -- Document 01, "Deposit sheet": what a sheet prints. "The program files and acknowledges in that order, then prints all rows, then `ack`, row
 -- and answer for each press".
 use Prim.Native.Nat.{ℕ, zero, suc, _+_, _*_}
-use mathlib.Core.Path.{_≡_}
 use mathlib.Core.List.{List, [], _∷_, _++_}
-use mathlib.Core.Bool.{cond}
-use lib.ListN.{length, drop, replicate}
-use lib.Dec.{ltb}
-use Rattle.answer.specs.Answers.{answer}
+use lib.ListN.{length, replicate}
+use Rattle.answer.specs.Written.{fitted, Writes}
 use Rattle.answer.specs.declared.Answer.{Answer}
 use Rattle.register.specs.declared.Register.{Register}
 use Rattle.register.specs.Calls.{Held, acknowledgeOf, askOf}
@@ -44,7 +41,7 @@ printed h acks =
     header ++ rowLines (h .sets) (ackedAll (h .sets) (h .register) acks) (h .register .counts .specs) 1 ++ ackLines (h .sets) (h .register) acks
 
 abbrev pub acceptedText : List ℕ → Layout → List ℕ
-acceptedText s l = printed (registerOf s l ownSets) (acksFrom (l .acknowledged) s (l .acks))
+acceptedText s l = printed (registerOf s l ownSets) (acksFrom (l .acknowledged) s (l .starts .acks))
 
 abbrev pub textFor : List ℕ → Parsed → List ℕ
 textFor s (Refused place) = refusalLine place
@@ -54,14 +51,6 @@ textFor s (Accepted l) = acceptedText s l
 unfoldable pub textOf : List ℕ → List ℕ
 textOf s = textFor s (layoutOf s)
 
--- 15 "output too short", with the bytes needed; else 0 with the bytes written
-unfoldable pub answered : List ℕ → (room : ℕ) → Answer
-answered text room = cond (ltb room (length text)) (answer 15 (length text)) (answer 0 (length text))
-
--- the output lent, afterwards: "Any refusal keeps .. output .. unchanged; success changes only the .. bytes used"
-unfoldable pub outputOf : List ℕ → List ℕ → List ℕ
-outputOf text out = cond (ltb (length out) (length text)) out (text ++ drop (length text) out)
-
 -- a text is printed where it fits
-abbrev pub Runs : List ℕ → Answer → (old new : List ℕ) → Type 0
-Runs text r old new = (r ≡ answered text (length old)) × (new ≡ outputOf text old)
+unfoldable pub Runs : List ℕ → Answer → (old new : List ℕ) → Type 0
+Runs text r old new = Writes (fitted (length old) text) r old new

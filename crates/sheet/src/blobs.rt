@@ -38,5 +38,5 @@ pub fn register_of(sets: &mut [u32], s: &[u8], layout: Layout) -> Register
 {
     let counts = layout::counts_of(s, layout);
     let opened = register::open(counts, sets);
-    file_all(sets, s, layout.blobs, layout.rows, opened.register)
+    file_all(sets, s, layout.starts.blobs, layout.rows, opened.register)
 }

@@ -1,9 +1,8 @@
 // The deposit sheet: run on the register, and its print laid over lent output.
 ghost use mathlib.Core.Path.{_≡_};
-ghost use Prim.Native.Nat.{_≤_, _<_};
+ghost use Prim.Native.Nat.{_<_};
 ghost use mathlib.Core.List.{_++_};
 ghost use lib.ListN.{length};
-ghost use Rattle.answer.specs.Size.{maxSize};
 ghost use Rattle.layout.specs.Layout.{acksFrom};
 ghost use Rattle.text.specs.Printing.{further, laid, Prints};
 ghost use Rattle.sheet.specs.Lines.{header, refusalLine};
@@ -25,7 +24,7 @@ mod lines;
 
 // What asking row i gives, by these standings and marks.
 fn asked_by(g: Register, standings: &[u8], marks: &[u8], i: usize) -> Asked
-    requires { ⌜ (g .counts .specs ≤ maxSize) × (i < g .counts .specs) × (g .counts .specs ≤ length (now standings)) × (g .counts .specs ≤ length (now marks)) ⌝ }
+    requires { ⌜ Known g (now standings) (now marks) × (i < g .counts .specs) ⌝ }
     ensures { λ r. ⌜ r ≡ askedBy g (now (standings .entry)) (now (marks .entry)) i ⌝ }
 {
     answer::asked_of(standings[i], g.states[i], g.codes[i], g.places[i], marks[i])
@@ -102,7 +101,7 @@ fn print(out: &mut [u8], s: &[u8], layout: Layout) -> Answer
     let g = blobs::register_of(&mut sets, s, layout);
     let standings = register::standings(g, &sets);
     let mut marks = g.marks;
-    let at = layout.acks;
+    let at = layout.starts.acks;
     let count = layout.acknowledged;
     let needed = size_of(s, g, at, count, &standings, &mut marks);
     if out.len() < needed {

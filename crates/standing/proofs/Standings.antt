@@ -1,10 +1,10 @@
--- Laws of `any`, `cleared`, `filled` and `standing`.
+-- Laws of `cleared`, `filled` and `standing`.
 -- Assumes nothing.
 use Prim.Native.Nat.{ℕ, zero, suc, _+_, _<_, _≤_}
 use mathlib.Core.Path.{_≡_, refl, sym, ap, _∙_, subst}
 use mathlib.Core.List.{List}
-use mathlib.Core.Bool.{Bool, true, false, cond, _||_, false≢true}
-use mathlib.Core.Logic.{⊎-elim, by-cases}
+use mathlib.Core.Bool.{Bool, true, false, cond, _||_}
+use mathlib.Core.Logic.{by-cases}
 use native.Mathlib.Omega.{arith}
 use native.Mathlib.Decide.{ℕ-discrete}
 use native.Mathlib.Nat.{le-refl}
@@ -13,38 +13,15 @@ use lib.ListN.{length, getD, set, length-set}
 use lib.Seq.{getD-set-same, getD-set-other, set-getD}
 use lib.Dec.{eqb, ltb}
 use borrow.Author.Tests.{lt-ltb, le-ltb, ltb-false, ne-eqb}
+use Rattle.bits.specs.Bits.{bitAt}
+use Rattle.bits.specs.Any.{any}
+use Rattle.bits.proofs.Bools.{or-neither}
+use Rattle.bits.proofs.Any.{any-cong}
 use Rattle.reach.specs.Reach.{Graph, thru}
 use Rattle.reach.specs.Closure.{ClosureOf}
-use Rattle.reach.proofs.Bools.{or-neither, or-left, or-right, or-cases}
 use Rattle.reach.proofs.Reaching.{thru-cong}
-use Rattle.standing.specs.Standing.{any, trouble, leaning, standing, cleared, filled, markedIn}
+use Rattle.standing.specs.Standing.{trouble, leaning, standing, cleared, filled, markedIn}
 use Rattle.standing.specs.Closed.{leansOn, losesOf, standingOf}
-use Rattle.bits.specs.Bits.{bitAt}
-
-pub any-intro : (n : ℕ) (p : ℕ → Bool) (j : ℕ) → j < n → p j ≡ true → any n p ≡ true
-unfolding any
-any-intro zero p j h e = absurd (omega arith)
-any-intro (suc n) p j h e =
-    by-cases (ℕ-discrete j n) (λ (q : j ≡ n). or-right (any n p) (subst (λ (x : ℕ). p x ≡ true) q e))
-    (λ ne. or-left (p n) (any-intro n p j (omega arith) e))
-
-pub any-elim : (n : ℕ) (p : ℕ → Bool) → any n p ≡ true → (j : ℕ) × (j < n) × (p j ≡ true)
-unfolding any
-any-elim zero p e = absurd (false≢true e)
-any-elim (suc n) p e = ⊎-elim (λ a. let x = any-elim n p a in (x .0, omega (arith, x .1), x .2)) (λ b. (n, le-refl (suc n), b)) (or-cases (any n p) (p n) e)
-
-pub any-none : (p : ℕ → Bool) → any 0 p ≡ false
-unfolding any
-any-none p = refl
-
-pub any-more : (n : ℕ) (p : ℕ → Bool) → any n p ≡ false → p n ≡ false → any (n + 1) p ≡ false
-unfolding any
-any-more n p h k = rw add-one (rw (h, k))
-
-pub any-cong : (n : ℕ) (p q : ℕ → Bool) → ((j : ℕ) → j < n → p j ≡ q j) → any n p ≡ any n q
-unfolding any
-any-cong zero p q e = refl
-any-cong (suc n) p q e = rw (any-cong n p q (λ j h. e j (omega arith)), e n (le-refl (suc n)))
 
 -- ---- cleared
 pub length-picked : (b : Bool) (l : List ℕ) (n : ℕ) → length (cond b (set l n 0) l) ≡ length l

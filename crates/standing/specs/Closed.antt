@@ -5,7 +5,7 @@ use mathlib.Core.Bool.{Bool, cond, _||_, _&&_}
 use lib.ListN.{getD}
 use lib.Dec.{ltb, eqb}
 use Rattle.bits.specs.Bits.{bitAt}
-use Rattle.standing.specs.Standing.{any}
+use Rattle.bits.specs.Any.{any}
 
 -- row j is "an EMPTY, BAD or LOOP row" that row i reaches
 abbrev pub leansOn : ℕ → List ℕ → List ℕ → ℕ → ℕ → Bool

@@ -2,15 +2,11 @@
 -- the references; and the marks that a filing takes away. Row r has the index r - 1.
 use Prim.Native.Nat.{ℕ, zero, suc}
 use mathlib.Core.List.{List}
-use mathlib.Core.Bool.{Bool, false, cond, _||_, _&&_}
+use mathlib.Core.Bool.{Bool, cond, _||_, _&&_}
 use lib.ListN.{set, getD}
 use lib.Dec.{ltb, eqb}
+use Rattle.bits.specs.Any.{any}
 use Rattle.reach.specs.Reach.{Graph, thru}
-
--- a test holds of some index below n
-unfoldable pub any : ℕ → (ℕ → Bool) → Bool
-any zero p = false
-any (suc n) p = any n p || p n
 
 -- "an EMPTY, BAD or LOOP row"
 unfoldable pub trouble : ℕ → (ℕ → ℕ) → Graph → ℕ → Bool

@@ -6,8 +6,9 @@ ghost use Prim.Native.Nat.{_+_, _*_, _≤_, _<_};
 ghost use lib.ListN.{length, getD};
 ghost use lib.Dec.{eqb};
 ghost use Rattle.bits.specs.Bits.{wordBits, bitAt};
+ghost use Rattle.bits.specs.Any.{any};
 ghost use Rattle.reach.specs.Reach.{thru};
-ghost use Rattle.standing.specs.Standing.{any, cleared, filled, markedIn, standing};
+ghost use Rattle.standing.specs.Standing.{cleared, filled, markedIn, standing};
 ghost use Rattle.standing.specs.Closed.{leansOn, losesOf, standingOf};
 use bits::bit_at;
 
@@ -57,7 +58,7 @@ fn standing_of(m: &[u32], w: usize, states: &[u8], n: usize, i: usize) -> u8
 }
 
 // The standings of n rows, in their order; m is a closed table.
-fn standings_of(all: &mut [u8], m: &[u32], w: usize, states: &[u8], n: usize)
+fn fill_standings(all: &mut [u8], m: &[u32], w: usize, states: &[u8], n: usize)
     requires { ⌜ (n * w ≤ length (now m)) × (n ≤ wordBits * w) × (n ≤ length (now states)) × (n ≤ length (now all)) ⌝ }
     ensures { λ _. ⌜ now (all .exit) ≡ filled (now (all .entry)) n (standingOf w (now (m .entry)) (now (states .entry)) n) ⌝ }
 {
@@ -97,7 +98,7 @@ pub fn standings_among(
     ensures { λ _. ⌜ now (all .exit) ≡ filled (now (all .entry)) n (standing n (λ j. getD (now (states .entry)) j 0) (bitAt v (now (sets .entry)))) ⌝ }
 {
     reach::closure(room, w, sets, v, n);
-    standings_of(all, room, w, states, n);
+    fill_standings(all, room, w, states, n);
 }
 
 // Some row of n has a mark.

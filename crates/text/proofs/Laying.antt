@@ -6,7 +6,7 @@ use mathlib.Core.Bool.{cond}
 use mathlib.Core.List.{List, [], _∷_, _++_}
 use native.Mathlib.Omega.{arith}
 use native.Mathlib.Numerals.{add-one}
-use lib.ListN.{length, getD, set, drop, length-set, length-append, drop-of-length-le}
+use lib.ListN.{length, getD, set, drop, length-append, drop-of-length-le}
 use lib.Seq.{drop-cons, sets}
 use borrow.Author.Tests.{lt-ltb}
 use Rattle.text.specs.Printing.{maxOffset, nextOffset, further, laid, Prints}
@@ -15,11 +15,6 @@ pub set-past : (l : List ℕ) (i b : ℕ) → length l ≤ i → l ≡ set l i b
 set-past [] i b h = refl
 set-past (x ∷ l) zero b h = absurd (omega arith)
 set-past (x ∷ l) (suc i) b h = ap (λ t. x ∷ t) (set-past l i b (omega arith))
-
-pub length-laid : (text out : List ℕ) (to : ℕ) → length (laid out to text) ≡ length out
-unfolding laid
-length-laid [] out to = refl
-length-laid (b ∷ text) out to = length-laid text (set out to b) (nextOffset to) ∙ length-set out to b
 
 pub further-add : (j k to : ℕ) → further to (j + k) ≡ further (further to j) k
 unfolding further

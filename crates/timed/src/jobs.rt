@@ -5,7 +5,7 @@ use crate::graphs::Graph;
 use crate::graphs::Sets;
 use crate::graphs::type_of;
 use number::checked::Checked;
-use number::token::no_counts;
+use number::token::row_counts;
 use register::MAX_SIZE;
 use register::Register;
 use register::WORDS;
@@ -91,9 +91,7 @@ fn file_all(g: Register, graph: Graph, mark: u8, sets: &mut Sets) -> Round {
 
 // A register of so many rows, all filed.
 fn filled(graph: Graph, rows: u32, sets: &mut Sets) -> Register {
-    let mut counts = no_counts();
-    counts.specs = rows;
-    let opened = register::open(counts, sets);
+    let opened = register::open(row_counts(0, 0, rows), sets);
     file_all(opened.register, graph, 0, sets).register
 }
 

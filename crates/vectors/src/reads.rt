@@ -76,8 +76,8 @@ fn accepted() {
     );
 }
 
-// Refusals 1 and 2.
-fn refused_1_2() {
+// A dozen refusals of each number from 1 to 13.
+fn refused() {
     show_rows(
         b"
 # 1: a blob over 4,096 bytes.
@@ -113,14 +113,6 @@ fn refused_1_2() {
 4: 20 DF FF FF FF
 4: 00 02 01 0E
 2: 07 02 08
-",
-    );
-}
-
-// Refusals 3 and 4.
-fn refused_3_4() {
-    show_rows(
-        b"
 # 3: a malformed number.
 0: 13 E0
 0: 13 FF
@@ -153,14 +145,6 @@ fn refused_3_4() {
 0: 14 08 20 21
 0: 14 08 02 01 05 03
 0: 1D 15 12 09 00
-",
-    );
-}
-
-// Refusal 5.
-fn refused_5() {
-    show_rows(
-        b"
 # 5: a byte that is not allowed here.
 1: 06 10 08
 1: 06 01
@@ -182,14 +166,6 @@ fn refused_5() {
 4: 40
 0: 20 06 45 08
 0: 17
-",
-    );
-}
-
-// Refusals 6 and 7.
-fn refused_6_7() {
-    show_rows(
-        b"
 # 6: a node deeper than 32.
 0: 1D*32 08
 0: 0F*32 01
@@ -218,14 +194,6 @@ fn refused_6_7() {
 3: 08 00 12 0A
 4: 00 00 0F 12 0A
 0: 1F BF FF
-",
-    );
-}
-
-// Refusals 8 and 9.
-fn refused_8_9() {
-    show_rows(
-        b"
 # 8: row 0, or a row above its count.
 0: 20 00
 0: 20 01
@@ -253,14 +221,6 @@ fn refused_8_9() {
 0: 14 08 01 00 00 00
 0: 20 06 16 16
 0: 1B 00 00 01 01
-",
-    );
-}
-
-// Refusals 12 and 13.
-fn refused_12_13() {
-    show_rows(
-        b"
 # 12: an unknown kind.
 5: 06 08
 6:
@@ -289,14 +249,6 @@ fn refused_12_13() {
 1 16777215 33554432 0: 06 08
 4 16777216 16777215 16777215: 00 00 01
 0 16777215 16777215 16777215: 08
-",
-    );
-}
-
-// Refusals 10 and 11.
-fn refused_10_11() {
-    show_rows(
-        b"
 # 10: a 1,025th node.
 2: 07 84 00 08*1024
 2: 07 84 01 0E*1025
@@ -337,11 +289,5 @@ fn refused_10_11() {
 pub fn run() {
     worked_blobs();
     accepted();
-    refused_1_2();
-    refused_3_4();
-    refused_5();
-    refused_6_7();
-    refused_8_9();
-    refused_12_13();
-    refused_10_11();
+    refused();
 }

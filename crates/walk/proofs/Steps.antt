@@ -1,22 +1,21 @@
 -- Each way through a function of the walk, as one law over plain values. A need cites one of them, with `_` for what the goal shows.
 -- Assumes nothing.
-use Prim.Native.Nat.{ℕ, zero, suc, _+_, _-_, _≤_, _<_}
+use Prim.Native.Nat.{ℕ, _+_, _-_, _<_}
 use native.Mathlib.Omega.{arith}
 use mathlib.Core.Path.{_≡_, refl, sym, ap, _∙_}
 use mathlib.Core.Bool.{true, false}
-use mathlib.Core.List.{List, [], _++_}
-use lib.ListN.{length, length-append}
+use mathlib.Core.List.{List}
+use lib.ListN.{length}
 use Rattle.number.specs.declared.token.Counts.{Counts}
 use Rattle.element.specs.Element.{isTypePlace}
 use Rattle.element.specs.declared.Place.{Place}
-use Rattle.element.specs.declared.Place.the-variants as Place
 use Rattle.grammar.specs.Limits.{maxNodes}
-use Rattle.grammar.specs.Judge.{Out, fault, done, many, array, node}
+use Rattle.grammar.specs.Judge.{Out, many, node}
 use Rattle.grammar.proofs.Bounds.{Ends, ends-many, ends-node}
-use Rattle.grammar.proofs.Sound.{Holds, stopped, holds, holds-bind}
+use Rattle.grammar.proofs.Sound.{Holds}
 use Rattle.opening.specs.Open.{headOf, openAt}
 use Rattle.opening.specs.Lead.{leadAt}
-use Rattle.opening.specs.Means.{sealed, andThen, series, signatureOf, onLead, onOpen}
+use Rattle.opening.specs.Means.{sealed, series, signatureOf, onLead, onOpen}
 use Rattle.opening.specs.declared.Head.{Head}
 use Rattle.opening.specs.declared.signatures.Lead.{Lead}
 use Rattle.opening.specs.declared.signatures.Begun.{Begun}
@@ -28,7 +27,7 @@ use Rattle.opening.specs.Table.{smallOf, sealsOf, Sealed}
 use Rattle.opening.specs.Walk.{walkOf, Walked}
 use Rattle.opening.specs.declared.Walk.{Walk}
 use Rattle.opening.specs.declared.Walk.the-variants.{Next, Stop}
-use Rattle.opening.proofs.Walks.{walked-fault, walked-is, found, still, walked-seal, walked-small}
+use Rattle.opening.proofs.Walks.{walked-fault, walked-is, found, still, walked-seal, walked-small, ends-series}
 use Rattle.walk.specs.Series.{seriesOf, endOf, itemsOf, WalkedSeries}
 use Rattle.walk.specs.declared.Series.{Series}
 use Rattle.walk.specs.declared.Series.the-variants as Series
@@ -43,39 +42,26 @@ module _ (d : ℕ) (s : List ℕ) (counts : Counts) (p : Place) (at n : ℕ) (t 
   unfolding onOpen
   type-stop c q o g = walked-fault _ n c q o (opened-as _ g)
 
-  module _ (h : Head) (next : ℕ) (g : y ≡ Open.Leaf h next) where
-    pub leaf-bounds : (0 < d) × (at < length s) × (n < maxNodes)
-    leaf-bounds = open-begins s counts p at n d _ (sym e ∙ g) refl
+  -- where it is not refused, there is a byte and room for a node
+  pub open-bounds : (x : Open) → y ≡ x → isShut x ≡ false → (0 < d) × (at < length s) × (n < maxNodes)
+  open-bounds x g f = open-begins s counts p at n d x (sym e ∙ g) f
 
-    pub leaf-done : (r : Walk) (o o₁ : List ℕ) → Sealed (Next next (n + 1)) n h at r o o₁ → Walked (node d s counts p at n) n r o o₁
-    unfolding onOpen
-    leaf-done r o o₁ z = walked-is _ _ n r o o₁ (opened-as _ g) (walked-seal _ n h at _ r o o o₁ (still next (n + 1) (n + 1) o) z)
+  pub leaf-done : (h : Head) (next : ℕ) → y ≡ Open.Leaf h next → (r : Walk) (o o₁ : List ℕ) → Sealed (Next next (n + 1)) n h at r o o₁ → Walked (node d s counts p at n) n r o o₁
+  unfolding onOpen
+  leaf-done h next g r o o₁ z = walked-is _ _ n r o o₁ (opened-as _ g) (walked-seal _ n h at _ r o o o₁ (still next (n + 1) (n + 1) o) z)
 
   -- a node with one child is that child's outcome, sealed
   module _ (h : Head) (q : Place) (next : ℕ) (g : y ≡ Open.One h q next) where
     pub one-bounds : (0 < d) × (at < length s) × (n < maxNodes) × (isTypePlace q ≡ true)
-    one-bounds = let b = open-begins s counts p at n d _ (sym e ∙ g) refl in (b .0, b .1, b .2, open-one s counts p at n d t (sym e ∙ g))
+    one-bounds = let b = open-bounds _ g refl in (b .0, b .1, b .2, open-one s counts p at n d t (sym e ∙ g))
 
     pub one-node : node d s counts p at n ≡ sealed (node (d - 1) s counts q next (n + 1)) h at
     unfolding onOpen
     one-node = opened-as _ g
 
   -- a list, FNPTR, an array
-  pub below-bounds : (x : Open) → y ≡ x → isShut x ≡ false → (0 < d) × (at < length s) × (n < maxNodes)
-  below-bounds x g f = open-begins s counts p at n d x (sym e ∙ g) f
-
-  module _ (r : Walk) (o o₁ : List ℕ) where
-    pub list-node : (h : Head) (next : ℕ) → y ≡ Open.List h next → Walked (sealed (many (node (d - 1) s counts Place.Type) (h .children) next (n + 1)) h at) n r o o₁ → Walked (node d s counts p at n) n r o o₁
-    unfolding onOpen
-    list-node h next g x = walked-is _ _ n r o o₁ (opened-as _ g) x
-
-    pub fn-ptr-node : (h : Head) (next : ℕ) → y ≡ Open.FnPtr h next → Walked (sealed (node (d - 1) s counts Place.FnPtrMethod next (n + 1)) h at) n r o o₁ → Walked (node d s counts p at n) n r o o₁
-    unfolding onOpen
-    fn-ptr-node h next g x = walked-is _ _ n r o o₁ (opened-as _ g) x
-
-    pub array-node : (kind : ℕ) → y ≡ Open.Array kind → Walked (array (node (d - 1) s) (d - 1) s counts kind at n) n r o o₁ → Walked (node d s counts p at n) n r o o₁
-    unfolding onOpen
-    array-node kind g x = walked-is _ _ n r o o₁ (opened-as _ g) x
+  pub below-node : (x : Open) → y ≡ x → (r : Walk) (o o₁ : List ℕ) → Walked (onOpen x (node (d - 1) s) (d - 1) s counts at n) n r o o₁ → Walked (node d s counts p at n) n r o o₁
+  below-node x g r o o₁ w = walked-is _ _ n r o o₁ (opened-as x g) w
 
 pub series-ended : (o : Out) (k n e m i : ℕ) (o₀ o₁ : List ℕ) → i ≡ k → Walked o n (Next e m) o₀ o₁ → WalkedSeries o k n (Series.Next e m i) o₀ o₁
 unfolding seriesOf
@@ -123,15 +109,6 @@ pub one-walked : (f : ℕ → ℕ → Out) (at n : ℕ) (t : Series) (o o₁ : L
 one-walked f at n t o o₁ x r e = walked-is _ _ n r o o₁ (sym (one-series f at n)) (found _ n _ r o o₁ (sym e) (series-walked _ 1 n t o o₁ x))
 
 -- ---- method_at and signature_at
-
-ends-series : (f g : ℕ → ℕ → Out) → ((at n : ℕ) → Holds (Ends n) (f at n)) → ((at n : ℕ) → Holds (Ends n) (g at n)) → (k at n : ℕ) → n ≤ maxNodes → Holds (Ends n) (series f g k at n)
-unfolding series andThen
-ends-series f g a b zero at n j = holds {rs = []} (j, omega arith)
-ends-series f g a b (suc k) at n j = go (f at n) (a at n)
-  where
-    go : (o : Out) → Holds (Ends n) o → Holds (Ends n) (andThen o (many g k))
-    go (fault c p) h = stopped
-    go (done e m rs) (holds h) = holds-bind (many g k e m) _ (ends-many g b k e m (h .0)) (λ e₂ m₂ ts q. holds {rs = rs ++ ts} (q .0, omega (arith, h, q, length-append rs ts)))
 
 pub signature-bounds : (d : ℕ) (s : List ℕ) (p : Place) (at n : ℕ) → isTypePlace p ≡ false → (y : Begun) → y ≡ leadAt d s p at n → (l : Lead) → y ≡ Begun.Go l
     → (0 < d) × (at < length s) × (n < maxNodes) × (isTypePlace (l .first) ≡ true) × (isTypePlace (l .rest) ≡ true)

@@ -21,6 +21,7 @@ use grammar::MAX_DEPTH;
 use number::token::Counts;
 use opening::Head;
 use opening::Walk;
+use opening::head_of;
 use opening::shape::Shape;
 use opening::shape::shape_at;
 use opening::signatures::Begun;
@@ -189,12 +190,7 @@ fn seal_types(out: &mut [u32], n: usize, lead: Lead, at: usize, types: Series) -
             node: m,
             items,
         } => {
-            let head = Head {
-                kind: lead.kind,
-                a: lead.a,
-                b: lead.b,
-                children: items,
-            };
+            let head = head_of(lead.kind, lead.a, lead.b, items);
             seal(out, n, head, at, Walk::Next { at: e, node: m })
         }
         Series::Stop { refusal, at: q } => Walk::Stop { refusal, at: q },

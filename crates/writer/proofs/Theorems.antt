@@ -18,7 +18,7 @@ use Rattle.grammar.specs.Refusals.{writeRefusals, among}
 use Rattle.grammar.specs.Table.{flat}
 use Rattle.grammar.specs.Judge.{Out, fault, done, knownCounts, reading}
 use Rattle.grammar.specs.Derives.{HasTable}
-use Rattle.grammar.specs.Writer.{Written, written, fitted, writing}
+use Rattle.grammar.specs.Writer.{writing}
 use Rattle.grammar.specs.declared.Node.{Node}
 use Rattle.grammar.proofs.Emits.{length-flat}
 use Rattle.grammar.proofs.Reading.{nodes, read-accepted}
@@ -28,7 +28,7 @@ use Rattle.reader.specs.Answer as reader
 use Rattle.answer.specs.declared.Answer.{Answer}
 use Rattle.answer.specs.Answers.{answer}
 use Rattle.reader.proofs.Theorems.{read-derived}
-use Rattle.writer.specs.Written.{answerOf, outputOf}
+use Rattle.answer.specs.Written.{Written, written, fitted, answerOf, outputOf}
 
 -- What `write` answers and leaves: the one blob with the table, or a refusal and the output as it was. There is no sixth.
 pub data Verdict (kind : ℕ) (counts : Counts) (t o : List ℕ) : Answer → List ℕ → Type 0 where

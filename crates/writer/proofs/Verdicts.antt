@@ -21,7 +21,7 @@ use Rattle.emission.specs.Emission.{resultOf, leavesOf, Emits}
 use Rattle.emission.specs.declared.Emit.{Emit}
 use Rattle.emission.specs.declared.Emit.the-variants.{Next, Stop}
 use Rattle.emission.proofs.Laws.{clash, Fit, fits, over, fit, emits-is, found, next-within, times-one}
-use Rattle.writer.specs.Written.{answerOf, outputOf, Writes}
+use Rattle.answer.specs.Written.{answerOf, outputOf, Writes}
 
 -- ---- copy_confirmed: s is the blob, o the output
 

@@ -6,7 +6,7 @@ ghost use Prim.Native.Nat.{_≤_};
 ghost use lib.ListN.{length, drop};
 ghost use Rattle.grammar.specs.Emit.{wrote, emitted};
 ghost use Rattle.grammar.specs.Writer.{confirmed, writing};
-ghost use Rattle.writer.specs.Written.{Writes};
+ghost use Rattle.answer.specs.Written.{Writes};
 use answer::Answer;
 use emission::Emit;
 use grammar::MAX_BYTES;

@@ -1,6 +1,6 @@
 -- `bits::put_bit` meets its contract. Assumes nothing.
 use borrow.Author.Needs.{needs}
-use Rattle.bits.specs.Bits.{putBit}
+use Rattle.bits.specs.Bits.{wordBits, putBit}
 use Rattle.bits.proofs.BitLaws.{one-shift}
 use Prim.Native.Nat.{ℕ, _+_, _*_, _/_, _%_}
 use mathlib.Core.Path.{ap}
@@ -15,8 +15,8 @@ returns : tie.Need-returns
 unfolding putBit
 returns c =
     let a = c .before .args in
-    let k = a .r * a .w + a .s / 32 in
-    ap (λ (x : ℕ). set (now (a .m)) k (bitOr (getD (now (a .m)) k 0) x)) (one-shift (a .s % 32) (omega arith))
+    let k = a .r * a .w + a .s / wordBits in
+    ap (λ (x : ℕ). set (now (a .m)) k (bitOr (getD (now (a .m)) k 0) x)) (one-shift (a .s % wordBits) (omega arith))
 
 pub put-bit-spec : {M : Type 1} → statement M
 put-bit-spec =

@@ -11,5 +11,6 @@ dcl-judge-spec =
     tie.close
     (tie.spec
     (λ c κs. search needs)
+    (λ c κs. search needs)
     (λ c κs. rw (c .judge .ensures) (judge-place _ _ _))
-    (λ c. c .pack .ensures ∙ ap packOf (c .before .judge .ensures)))
+    (λ c. rw (← c .before .before .row-counts .ensures) (c .pack .ensures ∙ ap packOf (c .before .judge .ensures))))

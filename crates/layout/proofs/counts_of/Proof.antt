@@ -6,7 +6,7 @@ use Rattle.layout.proofs.counts_of.Tie as tie
 
 returns : tie.Need-returns
 unfolding countsOf
-returns c = rw (← c .before .before .before .before .before .before .before .checked-at .ensures, c .before .before .before .before .before .defs .given .1, ← c .before .before .before .checked-at2 .ensures, c .before .refs .given .1)
+returns c = rw (← c .before .before .before .before .before .before .before .before .checked-at .ensures, c .before .before .before .before .before .before .defs .given .1, ← c .before .before .before .before .checked-at2 .ensures, c .before .before .refs .given .1) (c .row-counts .ensures)
 
 returns-2 : tie.Need-returns-2
 unfolding countsOf
@@ -24,6 +24,7 @@ counts-of-spec =
     (λ c. search needs)
     (λ c κs. search needs)
     (λ c. search needs)
+    (λ c κs. search needs)
     (λ c. search needs)
     (λ c κs. search needs)
     (λ c. search needs)

@@ -7,15 +7,15 @@ use Rattle.layout.proofs.note.Tie as tie
 
 returns : tie.Need-returns
 unfolding noteOf
-returns c = rw (eq-eqb _ _ (c .match .keys1))
+returns c = rw (eq-eqb _ _ (c .before .match .keys1))
 
 returns-2 : tie.Need-returns-2
 unfolding noteOf
-returns-2 c = rw (ne-eqb (c .before .args .section) 0 (omega (arith, c .match .keys2)), eq-eqb _ _ (c .match .keys2))
+returns-2 c = rw (ne-eqb (c .before .before .args .section) 0 (omega (arith, c .before .match .keys2)), eq-eqb _ _ (c .before .match .keys2))
 
 returns-3 : tie.Need-returns-3
 unfolding noteOf
-returns-3 c = rw (ne-eqb _ _ (c .match .rest .0 .1), ne-eqb _ _ (c .match .rest .1))
+returns-3 c = rw (ne-eqb _ _ (c .before .match .rest .0 .1), ne-eqb _ _ (c .before .match .rest .1))
 
 pub note-spec : {M : Type 1} → statement M
 note-spec =

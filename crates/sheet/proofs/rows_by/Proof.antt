@@ -26,7 +26,7 @@ rows-by-spec =
     μ-loop
     (λ c. search needs)
     (λ c. (search needs, search needs, λ q new p. rows-all _ _ _ _ _ _ _ _ p))
-    (λ c κs. (c .before .before .before .before .before .before .pre .0, c .loop-test .taken, c .before .before .before .before .before .before .pre .1, c .before .before .before .before .before .before .pre .2))
+    (λ c κs. (c .before .before .before .before .before .before .pre, c .loop-test .taken))
     (λ c. search needs)
     (λ c κs. search needs)
     (λ c. search needs)

@@ -6,8 +6,9 @@ use native.Mathlib.Omega.{arith}
 use Prim.Native.Nat.{ℕ, _≤_, _-_}
 use mathlib.Core.Bool.{false}
 use denote.Ref.{now}
-use Rattle.standing.specs.Standing.{any, markedIn}
-use Rattle.standing.proofs.Standings.{any-none, any-more, any-intro}
+use Rattle.bits.specs.Any.{any}
+use Rattle.bits.proofs.Any.{any-none, any-more, any-intro}
+use Rattle.standing.specs.Standing.{markedIn}
 use Rattle.standing.proofs.any_marked.Statement.{statement}
 use Rattle.standing.proofs.any_marked.Tie as tie
 

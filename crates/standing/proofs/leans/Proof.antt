@@ -5,10 +5,10 @@ use native.Mathlib.Omega.{arith}
 use Prim.Native.Nat.{ℕ, _≤_, _-_}
 use mathlib.Core.Bool.{false}
 use denote.Ref.{now}
-use Rattle.standing.specs.Standing.{any}
-use Rattle.standing.specs.Closed.{leansOn}
-use Rattle.standing.proofs.Standings.{any-none, any-more, any-intro}
+use Rattle.bits.specs.Any.{any}
+use Rattle.bits.proofs.Any.{any-none, any-more, any-intro}
 use Rattle.bits.proofs.BitLaws.{row-in}
+use Rattle.standing.specs.Closed.{leansOn}
 use Rattle.standing.proofs.leans.Statement.{statement}
 use Rattle.standing.proofs.leans.Tie as tie
 

@@ -9,7 +9,7 @@ use Rattle.standing.proofs.standings_among.Tie as tie
 returns : tie.Need-returns
 returns c =
     let a = c .before .before .before .before .before .before .before .before .before .before .before .before .before .args in
-    c .before .before .standings-of .ensures
+    c .before .before .fill-standings .ensures
     ∙ filled-cong _ _ _ _ (λ i hi. standing-in (a .w) (a .v) (a .n) (now (a .sets)) _ (c .before .before .before .before .before .before .before .closure .ensures) (now (a .states)) i hi)
 
 pub standings-among-spec : {M : Type 1} → statement M

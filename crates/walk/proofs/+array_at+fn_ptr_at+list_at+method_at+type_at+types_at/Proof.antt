@@ -11,13 +11,13 @@ use borrow.Author.Needs.{needs}
 use Rattle.element.specs.Element.{bare, leads, entries, formOf, isTypePlace}
 use Rattle.grammar.specs.Judge.{node}
 use Rattle.grammar.proofs.Bounds.{ends-node}
-use Rattle.opening.specs.Means.{series}
+use Rattle.opening.specs.Means.{series, onOpen}
 use Rattle.opening.specs.Walk.{Walked}
 use Rattle.opening.specs.declared.Walk.{Walk}
 use Rattle.opening.specs.declared.Walk.the-variants.{Next}
 use Rattle.opening.proofs.Walks.{found, walked-as, walked-length, walked-next, walked-first, walked-seal, walked-small, series-end}
 use Rattle.walk.proofs.Laws.{Pending, pending-item, pending-link, pending-end, pending-is, fewer-levels, fewer-items, array-stop, array-cut, array-small, array-done}
-use Rattle.walk.proofs.Steps.{type-stop, leaf-bounds, leaf-done, one-bounds, one-node, below-bounds, list-node, fn-ptr-node, array-node, series-ended, series-stopped, list-small, list-done, one-walked, signature-stop, signature-bounds, signature-small, signature-done}
+use Rattle.walk.proofs.Steps.{type-stop, open-bounds, leaf-done, one-bounds, one-node, below-node, series-ended, series-stopped, list-small, list-done, one-walked, signature-stop, signature-bounds, signature-small, signature-done}
 use borrow.Fn.Kinds.{In}
 use borrow.Fn.PlainCycle.{Measures, is, falls, and}
 use Rattle.walk.proofs.array_at.Reads as array-at
@@ -144,14 +144,15 @@ Item t c =
 
 -- by what stood before its children
 types-at-item : (t : ℕ) (c : Read t) → Item t c
+unfolding onOpen
 types-at-item t c =
     let p = c .before .before .before .loop .inv .1 in
     let q = c .before .open-at .ensures in
     ⊎-elim {C = Item t c} (λ x. walked-as _ _ _ _ _ _ _ (x .3) (x .4) (type-stop _ _ _ _ _ _ p _ q _ _ _ (x .1 .given .1)))
     (⊎-elim {C = Item t c} (λ x. walked-as _ _ _ _ _ _ _ (x .7) (x .8) (leaf-done _ _ _ _ _ _ p _ q _ _ (x .1 .given .1) _ _ _ (x .4 .ensures)))
-    (⊎-elim {C = Item t c} (λ x. walked-as _ _ _ _ _ _ _ (x .7) (x .8) (list-node _ _ _ _ _ _ p _ q _ _ _ _ _ (x .1 .given .1) (x .4 .ensures)))
-    (⊎-elim {C = Item t c} (λ x. walked-as _ _ _ _ _ _ _ (x .7) (x .8) (fn-ptr-node _ _ _ _ _ _ p _ q _ _ _ _ _ (x .1 .given .1) (x .4 .ensures)))
-    (λ x. walked-as _ _ _ _ _ _ _ (x .7) (x .8) (array-node _ _ _ _ _ _ p _ q _ _ _ _ (x .1 .given .1) (x .4 .ensures))))))
+    (⊎-elim {C = Item t c} (λ x. walked-as _ _ _ _ _ _ _ (x .7) (x .8) (below-node _ _ _ _ _ _ p _ q _ (x .1 .given .1) _ _ _ (x .4 .ensures)))
+    (⊎-elim {C = Item t c} (λ x. walked-as _ _ _ _ _ _ _ (x .7) (x .8) (below-node _ _ _ _ _ _ p _ q _ (x .1 .given .1) _ _ _ (x .4 .ensures)))
+    (λ x. walked-as _ _ _ _ _ _ _ (x .7) (x .8) (below-node _ _ _ _ _ _ p _ q _ (x .1 .given .1) _ _ _ (x .4 .ensures))))))
     (c .match .came)
 
 pub +array-at+fn-ptr-at+list-at+method-at+type-at+types-at-spec : {M : Type 1} → statement M
@@ -261,7 +262,7 @@ unfolding formOf entries bare leads
     (λ c κs. c .before .loop .inv .1)
     (λ c. search needs)
     (λ c. search needs)
-    (λ c κs. let b = leaf-bounds _ _ _ _ _ _ (c .before .before .before .before .before .before .loop .inv .1) _ (c .before .before .before .before .open-at .ensures) _ _ (c .before .before .head .given .1) in (b .2, omega (arith, b, c .before .before .before .before .before .before .before .before .before .pre .1 .0)))
+    (λ c κs. let b = open-bounds _ _ _ _ _ _ (c .before .before .before .before .before .before .loop .inv .1) _ (c .before .before .before .before .open-at .ensures) _ (c .before .before .head .given .1) refl in (b .2, omega (arith, b, c .before .before .before .before .before .before .before .before .before .pre .1 .0)))
     (λ c. search needs)
     (λ c κs. let b = one-bounds _ _ _ _ _ _ (c .before .before .before .before .before .before .loop .inv .1) _ (c .before .before .before .before .open-at .ensures) _ _ _ (c .before .before .head2 .given .1) in (b .2, omega (arith, b, c .before .before .before .before .before .before .before .before .before .pre .1 .0)))
     (λ c. omega (arith, one-bounds _ _ _ _ _ _ (c .before .before .before .before .before .before .before .before .before .loop .inv .1) _ (c .before .before .before .before .before .before .before .open-at .ensures) _ _ _ (c .before .before .before .before .before .head2 .given .1)))
@@ -269,14 +270,14 @@ unfolding formOf entries bare leads
     (λ c. fewer-levels _ _ (one-bounds _ _ _ _ _ _ (c .before .before .before .before .before .before .before .before .before .loop .inv .1) _ (c .before .before .before .before .before .before .before .open-at .ensures) _ _ _ (c .before .before .before .before .before .head2 .given .1) .0))
     (λ c. let l = c .before .before .before .before .before .before .before .before .before .loop in let b = one-bounds _ _ _ _ _ _ (c .before .before .before .before .before .before .before .before .before .loop .inv .1) _ (c .before .before .before .before .before .before .before .open-at .ensures) _ _ _ (c .before .before .before .before .before .head2 .given .1) in (c .before .before .childless2 .kept .0 ∙ l .inv .0, b .3, omega (arith, l .inv .2), omega (arith, b, l .inv), λ h. pending-link _ _ _ _ _ _ _ _ _ _ _ _ (omega (arith, b, l .inv)) (c .before .before .childless2 .ensures) (pending-is _ _ _ _ _ _ _ (one-node _ _ _ _ _ _ (l .inv .1) _ (c .before .before .before .before .before .before .before .open-at .ensures) _ _ _ (c .before .before .before .before .before .head2 .given .1)) (l .inv .4 h)), λ h. absurd (omega (arith, h, c .before .before .before .before .before .before .before .before .loop-test .taken))))
     (λ c. search needs)
-    (λ c. omega (arith, below-bounds _ _ _ _ _ _ (c .before .before .before .before .before .before .loop .inv .1) _ (c .before .before .before .before .open-at .ensures) _ (c .before .before .head3 .given .1) refl))
-    (λ c κs. let b = below-bounds _ _ _ _ _ _ (c .before .before .before .before .before .before .loop .inv .1) _ (c .before .before .before .before .open-at .ensures) _ (c .before .before .head3 .given .1) refl in (omega (arith, b, c .before .before .before .before .before .before .loop .inv .2, c .before .before .before .before .before .before .before .before .before .pre .0), (c .before .before .before .before .before .before .before .before .before .pre .1 .0, b .1, b .2)))
+    (λ c. omega (arith, open-bounds _ _ _ _ _ _ (c .before .before .before .before .before .before .loop .inv .1) _ (c .before .before .before .before .open-at .ensures) _ (c .before .before .head3 .given .1) refl))
+    (λ c κs. let b = open-bounds _ _ _ _ _ _ (c .before .before .before .before .before .before .loop .inv .1) _ (c .before .before .before .before .open-at .ensures) _ (c .before .before .head3 .given .1) refl in (omega (arith, b, c .before .before .before .before .before .before .loop .inv .2, c .before .before .before .before .before .before .before .before .before .pre .0), (c .before .before .before .before .before .before .before .before .before .pre .1 .0, b .1, b .2)))
     (λ c. search needs)
-    (λ c. omega (arith, below-bounds _ _ _ _ _ _ (c .before .before .before .before .before .before .loop .inv .1) _ (c .before .before .before .before .open-at .ensures) _ (c .before .before .head4 .given .1) refl))
-    (λ c κs. let b = below-bounds _ _ _ _ _ _ (c .before .before .before .before .before .before .loop .inv .1) _ (c .before .before .before .before .open-at .ensures) _ (c .before .before .head4 .given .1) refl in (omega (arith, b, c .before .before .before .before .before .before .loop .inv .2, c .before .before .before .before .before .before .before .before .before .pre .0), (c .before .before .before .before .before .before .before .before .before .pre .1 .0, b .1, b .2)))
+    (λ c. omega (arith, open-bounds _ _ _ _ _ _ (c .before .before .before .before .before .before .loop .inv .1) _ (c .before .before .before .before .open-at .ensures) _ (c .before .before .head4 .given .1) refl))
+    (λ c κs. let b = open-bounds _ _ _ _ _ _ (c .before .before .before .before .before .before .loop .inv .1) _ (c .before .before .before .before .open-at .ensures) _ (c .before .before .head4 .given .1) refl in (omega (arith, b, c .before .before .before .before .before .before .loop .inv .2, c .before .before .before .before .before .before .before .before .before .pre .0), (c .before .before .before .before .before .before .before .before .before .pre .1 .0, b .1, b .2)))
     (λ c. search needs)
-    (λ c. omega (arith, below-bounds _ _ _ _ _ _ (c .before .before .before .before .before .before .loop .inv .1) _ (c .before .before .before .before .open-at .ensures) _ (c .before .before .kind .given .1) refl))
-    (λ c κs. let b = below-bounds _ _ _ _ _ _ (c .before .before .before .before .before .before .loop .inv .1) _ (c .before .before .before .before .open-at .ensures) _ (c .before .before .kind .given .1) refl in (omega (arith, b, c .before .before .before .before .before .before .loop .inv .2, c .before .before .before .before .before .before .before .before .before .pre .0), (c .before .before .before .before .before .before .before .before .before .pre .1 .0, b .1, b .2)))
+    (λ c. omega (arith, open-bounds _ _ _ _ _ _ (c .before .before .before .before .before .before .loop .inv .1) _ (c .before .before .before .before .open-at .ensures) _ (c .before .before .kind .given .1) refl))
+    (λ c κs. let b = open-bounds _ _ _ _ _ _ (c .before .before .before .before .before .before .loop .inv .1) _ (c .before .before .before .before .open-at .ensures) _ (c .before .before .kind .given .1) refl in (omega (arith, b, c .before .before .before .before .before .before .loop .inv .2, c .before .before .before .before .before .before .before .before .before .pre .0), (c .before .before .before .before .before .before .before .before .before .pre .1 .0, b .1, b .2)))
     (λ c. search needs)
     (λ c. c .before .before .before .before .before .before .before .loop .inv .2)
     (λ c κs. let y = found _ _ _ _ _ _ (c .before .before .w .given .1) (types-at-item t (c .before .before .before .before)) in (walked-first _ _ _ _ _ _ (ends-node _ _ _ _ _ _) y, c .before .before .before .before .before .before .before .loop .inv .3, omega (arith, walked-next _ _ _ _ _ _ (ends-node _ _ _ _ _ _) y)))

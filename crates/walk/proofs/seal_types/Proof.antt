@@ -12,8 +12,9 @@ seal-types-spec =
     tie.close
     (tie.spec
     (λ c. search needs)
-    (λ c κs. let p = c .before .before .before .before .before .pre in (p .0, p .1, rw (c .before .before .types .given .1) at (p .2)))
+    (λ c κs. search needs)
+    (λ c κs. let p = c .before .before .before .before .before .before .pre in (p .0, p .1, rw (c .before .before .before .types .given .1) at (p .2)))
     (λ c. search needs)
     (λ c. search needs)
-    (λ c. rw (c .before .before .before .before .before .types .given .1) (c .before .before .seal .ensures))
+    (λ c. rw (c .before .before .before .before .before .before .types .given .1, ← c .before .before .before .before .head-of .ensures) (c .before .before .seal .ensures))
     (λ c. rw (c .before .types2 .given .1) (seal-kept _ _ _ _ _ _ _ refl)))

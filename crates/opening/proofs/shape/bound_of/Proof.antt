@@ -11,5 +11,6 @@ bound-of-spec =
     (λ c. bound-deep (c .before .before .args .kind) (c .before .before .args .d) (c .before .before .args .value) (c .before .before .args .next) _ _ _ (c .if1 .taken))
     (λ c. bound-full (c .before .before .before .args .kind) (c .before .before .before .args .d) (c .before .before .before .args .value) (c .before .before .before .args .next) _ _ _ (c .before .if1 .left) (c .if2 .taken))
     (λ c κs. search needs)
+    (λ c κs. search needs)
     (λ c. search needs)
-    (λ c. bound-done _ _ _ _ _ _ _ _ _ (c .before .before .before .before .before .if1 .left) (c .before .before .before .before .if2 .left) (c .before .before .childless .ensures)))
+    (λ c. let h = rw (c .before .before .before .head-of .ensures) at (c .before .before .childless .ensures) in bound-done _ _ _ _ _ _ _ _ _ (c .before .before .before .before .before .before .if1 .left) (c .before .before .before .before .before .if2 .left) h))

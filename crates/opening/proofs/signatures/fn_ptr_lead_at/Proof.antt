@@ -1,5 +1,4 @@
 -- `opening::signatures::fn_ptr_lead_at` meets its contract. Assumes nothing.
-use mathlib.Core.Path.{sym, _∙_}
 use borrow.Author.Needs.{needs}
 use Rattle.opening.proofs.Heads.{byte-at, lead-shut, fn-ptr-lead-some, fn-ptr-lead-none}
 use Rattle.opening.proofs.signatures.fn_ptr_lead_at.Statement.{statement}
@@ -13,8 +12,9 @@ fn-ptr-lead-at-spec =
     (λ c. search needs)
     (λ c. search needs)
     (λ c κs. search needs)
-    (λ c. let h = byte-at _ _ _ _ _ _ (c .before .before .before .before .before .code-at .ensures) _ (c .before .before .before .byte .given .1) in search needs)
+    (λ c. search needs)
+    (λ c. let h = byte-at _ _ _ _ _ _ (c .before .before .before .before .before .before .before .code-at .ensures) _ (c .before .before .before .before .before .byte .given .1) in search needs)
     (λ c κs. search needs)
-    (λ c. fn-ptr-lead-some _ _ _ _ _ (c .before .before .before .before .before .before .code-at .ensures) _ (c .before .before .before .before .byte .given .1) (sym (c .before .before .is-lead .ensures) ∙ c .before .if1 .taken) _ (c .call-at .ensures))
     (λ c. lead-shut _ _ _ _ _ _ (c .before .before .before .code-at .ensures) _ (c .before .refusal .given .1))
-    (λ c. fn-ptr-lead-none _ _ _ _ _ (c .before .before .before .before .before .code-at .ensures) _ (c .before .before .before .byte .given .1) (sym (c .before .is-lead .ensures) ∙ c .if1 .left)))
+    (λ c. fn-ptr-lead-some _ _ _ _ _ (c .before .before .before .before .before .before .before .before .code-at .ensures) _ (c .before .before .before .before .before .before .byte .given .1) _ (c .before .before .before .before .fn-ptr-method-form .ensures) _ (c .before .before .form .given .1) _ (c .call-at .ensures))
+    (λ c. fn-ptr-lead-none _ _ _ _ _ (c .before .before .before .before .before .code-at .ensures) _ (c .before .before .before .byte .given .1) _ (c .before .fn-ptr-method-form .ensures) (c .match2 .keys2)))

@@ -1,7 +1,7 @@
--- `filing::named::is_modifier` meets its contract. Assumes nothing.
+-- `grammar::is_modifier` meets its contract. Assumes nothing.
 use borrow.Author.Tests.{eq-eqb, ne-eqb}
-use Rattle.filing.proofs.named.is_modifier.Statement.{statement}
-use Rattle.filing.proofs.named.is_modifier.Tie as tie
+use Rattle.grammar.proofs.is_modifier.Statement.{statement}
+use Rattle.grammar.proofs.is_modifier.Tie as tie
 
 pub is-modifier-spec : {M : Type 1} → statement M
 is-modifier-spec =

@@ -1,4 +1,4 @@
--- `standing::standings_of` meets its contract. Assumes nothing.
+-- `standing::fill_standings` meets its contract. Assumes nothing.
 use borrow.Author.Needs.{needs}
 use mathlib.Core.Path.{_≡_, ap, _∙_, subst}
 use native.Mathlib.Omega.{arith}
@@ -9,8 +9,8 @@ use denote.Ref.{now}
 use Rattle.standing.specs.Standing.{filled}
 use Rattle.standing.specs.Closed.{standingOf}
 use Rattle.standing.proofs.Standings.{filled-none, filled-more, length-filled}
-use Rattle.standing.proofs.standings_of.Statement.{statement}
-use Rattle.standing.proofs.standings_of.Tie as tie
+use Rattle.standing.proofs.fill_standings.Statement.{statement}
+use Rattle.standing.proofs.fill_standings.Tie as tie
 
 abbrev Inv-loop : tie.InvT-loop
 Inv-loop all₀ m w states n i₀ all i = (i ≤ n) × (all ≡ filled all₀ i (standingOf w m states n))
@@ -18,8 +18,8 @@ Inv-loop all₀ m w states n i₀ all i = (i ≤ n) × (all ≡ filled all₀ i 
 abbrev μ-loop : tie.MeasureT-loop
 μ-loop all₀ m w states n i₀ all i = n - i
 
-pub standings-of-spec : {M : Type 1} → statement M
-standings-of-spec =
+pub fill-standings-spec : {M : Type 1} → statement M
+fill-standings-spec =
     tie.close
     (tie.spec
     Inv-loop
