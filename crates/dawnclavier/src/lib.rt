@@ -7,7 +7,7 @@ ghost use Rattle.grammar.specs.Limits.{maxBytes};
 ghost use Rattle.grammar.specs.Judge.{judge, reading};
 ghost use Rattle.grammar.specs.Writer.{writing};
 ghost use Rattle.reader.specs.Answer.{answerOf, tableOf};
-ghost use Rattle.answer.specs.Written as writer;
+ghost use Rattle.answer.specs.Written as written;
 ghost use Rattle.dawnclavier.specs.Packed.{packOf};
 use answer::Answer;
 use number::token::row_counts;
@@ -58,7 +58,7 @@ pub extern "C" fn dcl_write(
     table: &[u32],
     out: &mut [u8],
 ) -> u64
-    ensures { λ r. ⌜ (r ≡ packOf (writer.answerOf (writing kind (rowCounts «type_defs» «type_refs» «type_specs») (now (table .entry)) (length (now (out .entry)))))) × (now (out .exit) ≡ writer.outputOf (writing kind (rowCounts «type_defs» «type_refs» «type_specs») (now (table .entry)) (length (now (out .entry)))) (now (out .entry))) ⌝ }
+    ensures { λ r. ⌜ (r ≡ packOf (written.answerOf (writing kind (rowCounts «type_defs» «type_refs» «type_specs») (now (table .entry)) (length (now (out .entry)))))) × (now (out .exit) ≡ written.outputOf (writing kind (rowCounts «type_defs» «type_refs» «type_specs») (now (table .entry)) (length (now (out .entry)))) (now (out .entry))) ⌝ }
 {
     let counts = row_counts(type_defs, type_refs, type_specs);
     pack(writer::write(kind, counts, table, out))

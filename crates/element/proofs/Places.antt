@@ -49,13 +49,13 @@ pub at-type : {A : Type 0} (a : A) (f g : Place → A) → each (ofTypes a f) pl
 at-type a f g e p t = rw t at (at-place (ofTypes a f) (ofTypes a g) e p)
 
 -- a match that names all other places leaves them to `_`
-abbrev pub typeTags : List Place → List ℕ
-typeTags [] = []
-typeTags (p ∷ ps) = cond (isTypePlace p) (tagOf the-type p ∷ typeTags ps) (typeTags ps)
+abbrev pub typePlaceTags : List Place → List ℕ
+typePlaceTags [] = []
+typePlaceTags (p ∷ ps) = cond (isTypePlace p) (tagOf the-type p ∷ typePlaceTags ps) (typePlaceTags ps)
 
-pub left-types : (p : Place) → OneOf (typeTags places) (tagOf the-type p) → isTypePlace p ≡ true
+pub left-types : (p : Place) → OneOf (typePlaceTags places) (tagOf the-type p) → isTypePlace p ≡ true
 unfolding formOf entries bare leads places
-left-types p h = go (isTypePlace p) (λ n. miss (typeTags places) (tagOf the-type p) (rw (at-place (λ q. not (hasKey (typeTags places) (tagOf the-type q))) (λ q. not (isTypePlace q)) refl p) n) h)
+left-types p h = go (isTypePlace p) (λ n. miss (typePlaceTags places) (tagOf the-type p) (rw (at-place (λ q. not (hasKey (typePlaceTags places) (tagOf the-type q))) (λ q. not (isTypePlace q)) refl p) n) h)
   where
     go : (t : Bool) → (T (not t) → ⊥) → t ≡ true
     go true n = refl

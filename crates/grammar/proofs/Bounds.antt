@@ -66,7 +66,7 @@ module _ (s : List ℕ) where
         (λ at₁ n₁ rs e. holds-bind (many (read counts p) c at₁ n₁) _ (ends-many (read counts p) (below counts p) c at₁ n₁ (e .0))
         (λ at₂ n₂ ts g. ends n (g .0) (omega (arith, e, g, length-append rs ts)))))
 
-    pub ends-array : (d : ℕ) (counts : Counts) (kind at n : ℕ) → Holds (Ends n) (array read d s counts kind at n)
+    ends-array : (d : ℕ) (counts : Counts) (kind at n : ℕ) → Holds (Ends n) (array read d s counts kind at n)
     ends-array d counts kind at n =
         holds-bind (read counts Place.Type (at + 1) (n + 1)) _ (below counts Place.Type (at + 1) (n + 1))
         (λ at₁ n₁ ts e. holds-numbered (countAt 1 maxRank s at₁) at₁ _

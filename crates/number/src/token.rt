@@ -51,7 +51,7 @@ fn rows_of(counts: Counts, tag: u32) -> u32
     match tag {
         0 => counts.defs,
         1 => counts.refs,
-        2 => counts.specs,
+        TYPE_SPEC_TAG => counts.specs,
         _ => 0,
     }
 }

@@ -42,6 +42,7 @@ unfoldable pub sealing : Out → (n at : ℕ) → Shape → (table after : List 
 sealing o n at (Shape.Stop refusal q) table after = Walked o n (Walk.Stop refusal q) table after
 sealing o n at (Shape.Done h e m) table after = (m ≤ maxNodes) × ((r : Walk) (fin : List ℕ) → Sealed (Walk.Next e m) n h at r after fin → Walked o n r table fin)
 
--- whichever array it is, with whatever records rs of its type, which stand in the table from behind its own index up to m
+-- whichever array it is, with whatever records rs of its type, which stand in the table from behind its own index up to m; so nothing is said of
+-- index 0, where no array's shape begins, nor of an array's record that does not fit
 abbrev pub Shaped : ((at : ℕ) → List Node → Out) → (m : ℕ) → Shape → (before after : List ℕ) → Type 0
 Shaped o m r before after = (at n : ℕ) (rs : List Node) (table : List ℕ) → m ≡ n + 1 + length rs → before ≡ stamp (n + 1) rs table → sealing (o at rs) n at r table after
