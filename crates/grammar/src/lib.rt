@@ -84,12 +84,19 @@ pub fn kind_of(place: Place, byte: u8) -> u32
     ensures { λ r. ⌜ r ≡ kindOf place byte ⌝ }
 {
     match place {
+        Place::Type => byte as u32,
+        Place::Pointee => byte as u32,
+        Place::Param => byte as u32,
+        Place::RetType => byte as u32,
+        Place::Local => byte as u32,
+        Place::Pinned => byte as u32,
+        Place::TypeSpec => byte as u32,
+        Place::ModifiedSpec => byte as u32,
         Place::FnPtrMethod => METHOD,
         Place::FieldSig => FIELD,
         Place::LocalVarSig => LOCALS,
         Place::PropertySig => PROPERTY,
         Place::MethodDefSig => METHOD,
-        _ => byte as u32,
     }
 }
 
