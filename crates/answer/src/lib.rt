@@ -1,5 +1,7 @@
 // What the calls answer; and what the register's answer, by plain numbers: the number of rows, how many words are lent, and a row's standing, state,
 // finding, place and mark.
+#![tactic(auto)]
+
 ghost use Rattle.std.specs.Prelude.{◌≡◌};
 ghost use Rattle.answer.specs.Answers.{row_code, admit_code, ack_code, asked_of};
 

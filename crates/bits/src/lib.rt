@@ -1,4 +1,6 @@
 // Sets of rows as bits, w words of 32 bits to a row: a bit asked, a bit set, words cleared. For any number of rows.
+#![tactic(auto)]
+
 ghost use Rattle.std.specs.Prelude.{◌≡◌, ◌+◌, ◌*◌, ◌/◌, ◌≤◌, ◌<◌, length};
 ghost use Rattle.bits.specs.Bits.{word_bits, bit_at, put_bit, clear_words};
 

@@ -1,4 +1,6 @@
 // What the programs that run cases share: printing, cases as rows of text, the bench's row counts and what lent memory is filled with.
+#![tactic(auto)]
+
 use number::token::{Counts, row_counts};
 
 pub mod print;

@@ -1,4 +1,6 @@
 // The archive for programs in other languages: the reader and the writer on numbers and slices alone. A slice passes as a pointer and a length.
+#![tactic(auto)]
+
 ghost use Rattle.std.specs.Prelude.{◌≡◌, ◌/◌, ◌≤◌, length};
 ghost use Rattle.number.specs.Token.{row_counts};
 ghost use Rattle.grammar.specs.Limits.{max_bytes};

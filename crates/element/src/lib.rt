@@ -1,4 +1,6 @@
 // The element bytes: what may follow a code byte in each place of the grammar. Each place decides the byte by one match.
+#![tactic(auto)]
+
 ghost use Rattle.std.specs.Prelude.{◌≡◌};
 ghost use Rattle.element.specs.Element.{allowed, bare, lookup, form_of};
 

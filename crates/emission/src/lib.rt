@@ -1,5 +1,7 @@
 // The bytes of a node table, from its records alone. Nothing of the table is trusted: what is emitted counts only once it was judged.
 // Slices are passed on as reborrows, for speed, as in crate `walk`.
+#![tactic(auto)]
+
 ghost use Rattle.std.specs.Prelude.{◌≡◌, ◌++◌, ◌+◌, ◌-◌, ◌*◌, ◌≤◌, ◌<◌, length};
 ghost use Rattle.number.specs.Number.{encode};
 ghost use Rattle.grammar.specs.Emit.{array, callable, layout_of, param_count, parts_of, times, parts, emit};

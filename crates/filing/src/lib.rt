@@ -1,4 +1,6 @@
 // What the register keeps of a blob that is filed for a row: the finding, and the set of TypeSpec rows that its modifiers name.
+#![tactic(auto)]
+
 ghost use Rattle.std.specs.Prelude.{◌≡◌, ◌+◌, ◌*◌, ◌≤◌, length};
 ghost use Rattle.answer.specs.Size.{words};
 ghost use Rattle.filing.specs.Outcome.{judged};

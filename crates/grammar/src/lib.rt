@@ -1,5 +1,7 @@
 // Document 01's limits, the kinds of nodes, the roots of the kinds of blobs, a record of the flat table and the test of row counts. All else of this
 // crate is in specs/ (the grammar, as definitions) and proofs/ (the theorems on it).
+#![tactic(auto)]
+
 ghost use Rattle.std.specs.Prelude.{◌≡◌, ◌+◌, ◌*◌, ◌≤◌, length};
 ghost use Rattle.grammar.specs.Kinds.{root_of};
 ghost use Rattle.grammar.specs.Table.{kind_of, is_modifier, record_at};

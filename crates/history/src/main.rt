@@ -1,4 +1,6 @@
 // Histories of calls on a register. What is printed is held to the file stdout.
+#![tactic(auto)]
+
 mod print;
 
 use number::token::row_counts;

@@ -1,4 +1,6 @@
 // The sections of a deposit sheet: whether it is one, and where its items stand.
+#![tactic(auto)]
+
 ghost use Rattle.std.specs.Prelude.{◌≡◌};
 ghost use Rattle.layout.specs.Layout.{section_count, item_at, note_of, sections_of, layout_of, counts_of};
 

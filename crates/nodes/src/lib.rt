@@ -1,5 +1,7 @@
 // The reader's second call: a signature blob read into the flat node table and into the caller's slice of record structs. The functions that touch
 // such a slice are few and thin, since their proofs are by hand; all else is on the flat table.
+#![tactic(auto)]
+
 ghost use Rattle.std.specs.Prelude.{◌≡◌, ◌<◌, ◌≤◌, ◌*◌, length};
 ghost use Rattle.grammar.specs.Limits.{max_nodes};
 ghost use Rattle.nodes.specs.Nodes.{ReadRecords, RecordOf, ReadWithin, nodes_of, copy_records};

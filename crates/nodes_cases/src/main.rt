@@ -1,5 +1,7 @@
 // The reader's second call run on document 01's bench, by `nodes::record_of`. Its answer and table are held against those of `reader::read`, and
 // each record against the table; what is printed is held to the file stdout.
+#![tactic(auto)]
+
 use cases::rows::{LONGEST, row_at};
 use cases::{UNTOUCHED, print};
 use grammar::{MAX_NODES, Node};

@@ -1,4 +1,6 @@
 // Compressed numbers: reading one at any offset of a slice. Writing one is in encoding.rt.
+#![tactic(auto)]
+
 ghost use Rattle.std.specs.Prelude.{◌≡◌, ◌<◌, length, get_or};
 ghost use Rattle.number.specs.Number.{number_at, whole, value2, value4};
 

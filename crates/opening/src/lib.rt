@@ -1,5 +1,7 @@
 // What a walk over a blob does without recursion: it reads what stands before a node's children, its code byte and the numbers behind it, and what
 // stands behind an array's type, and puts records into the table. Types and signatures are read apart: a walk is in the one for most nodes.
+#![tactic(auto)]
+
 ghost use Rattle.std.specs.Prelude.{◌≡◌};
 ghost use Rattle.opening.specs.Code.{crowded_of, code_at};
 ghost use Rattle.opening.specs.Open.{head_of};

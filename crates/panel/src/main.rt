@@ -1,4 +1,6 @@
 // The panel: reads a deposit sheet from the file that its argument names, or from standard input, and prints its rows and acknowledgements.
+#![tactic(auto)]
+
 ghost use Rattle.std.specs.Prelude.{◌≡◌, length};
 
 use libc::{STDERR_FILENO, STDIN_FILENO, STDOUT_FILENO};

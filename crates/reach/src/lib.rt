@@ -1,4 +1,6 @@
 // Reaching: a table of references, kept as bits, is copied and the copy is closed. For any number of rows.
+#![tactic(auto)]
+
 ghost use Rattle.std.specs.Prelude.{◌≡◌, ◌⊎◌, ℕ, ◌+◌, ◌*◌, ◌≤◌, ◌<◌, length};
 ghost use Rattle.bits.specs.Bits.{word_bits, bit_at};
 ghost use Rattle.reach.specs.Reach.{thru};

@@ -1,4 +1,6 @@
 // The reader: a signature blob, judged without a table or read into the flat node table.
+#![tactic(auto)]
+
 ghost use Rattle.std.specs.Prelude.{◌≡◌, ◌/◌, length};
 ghost use Rattle.grammar.specs.Judge.{judge as judgement, reading};
 ghost use Rattle.reader.specs.Answer.{answer_of, Reads};

@@ -1,5 +1,7 @@
 // The register of the TypeSpec rows of one module, a struct by value, with the sets of rows that its rows name in numbers that the caller lends: the
 // same at each call from the opening on, WORDS to a row. Row r has the index r - 1.
+#![tactic(auto)]
+
 ghost use Rattle.std.specs.Prelude.{◌≡◌};
 ghost use Rattle.filing.specs.Outcome.{judged};
 ghost use Rattle.register.specs.Calls.{Inside, blank_register, left, changed, too_many, open_code, open_of, file_at, file_of, marks_after, acknowledge_at, acknowledge_of, ask_at, ask_of, standing_at, standings_of};

@@ -1,4 +1,6 @@
 // The deposit sheet: run on the register, and its print laid over lent output.
+#![tactic(auto)]
+
 ghost use Rattle.std.specs.Prelude.{◌≡◌, ◌<◌, ◌++◌, length};
 ghost use Rattle.layout.specs.Layout.{acks_from};
 ghost use Rattle.text.specs.Printing.{further, laid, Prints};

@@ -1,5 +1,7 @@
 // The standings of rows, and the marks that a filing takes, by the sets of rows that they name, v words to a row. The closed table of the sets is laid
 // over room that the caller lends, w words to a row. For any number of rows.
+#![tactic(auto)]
+
 ghost use Rattle.std.specs.Prelude.{◌≡◌, ◌||◌, ◌+◌, ◌*◌, ◌≤◌, ◌<◌, length, get_or, eqb};
 ghost use Rattle.bits.specs.Bits.{word_bits, bit_at};
 ghost use Rattle.bits.specs.Any.{any};

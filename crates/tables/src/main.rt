@@ -1,4 +1,6 @@
 // Tables that were changed, or lent with too little room, each given to the writer: its answer and bytes are printed and held to the file stdout.
+#![tactic(auto)]
+
 use cases::{KEPT, print, usual_counts};
 
 fn shown(out: &[u8], code: u32, place: usize) {

@@ -1,4 +1,6 @@
 // Bytes and numerals over lent output: each function lays its text from an offset on, as far as the output reaches, and gives the offset behind it.
+#![tactic(auto)]
+
 ghost use Rattle.std.specs.Prelude.{◌≡◌, [], ◌∷◌};
 ghost use Rattle.text.specs.Printing.{next_offset, Prints};
 ghost use Rattle.text.specs.Numeral.{numeral, decimal};

@@ -1,5 +1,7 @@
 // Runs a job that the benchmark times: 10,000 numbers of one byte read 10,000 times; each row of 512 asked once, or filed once again; each row of 64
 // asked or filed 1,000 times. Prints the sum of the numbers or of the standings, or how many filings left one row's mark: the benchmark holds it to the reference's.
+#![tactic(auto)]
+
 mod graphs;
 mod jobs;
 

@@ -1,4 +1,6 @@
 // The cases that are run and compared: what is printed is held to the file stdout.
+#![tactic(auto)]
+
 mod answers;
 mod numbers;
 mod reads;

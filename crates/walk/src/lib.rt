@@ -2,6 +2,8 @@
 // its children are read; that of a node with one child before, and the index after its subtree is corrected then. So the same walk judges, on an
 // empty part of the table, and fills. A slice is passed on as a reborrow, `&*src`, which the compiler keeps in registers where it copies `src`
 // through memory.
+#![tactic(auto)]
+
 ghost use Rattle.std.specs.Prelude.{◌≡◌, true, false, ◌+◌, ◌≤◌, ◌<◌, length};
 ghost use Rattle.grammar.specs.Limits.{max_bytes, max_nodes, max_depth};
 ghost use Rattle.grammar.specs.Judge.{node, array, many};

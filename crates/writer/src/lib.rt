@@ -1,5 +1,7 @@
 // The writer: from a flat node table to the one blob that has it. The bytes are emitted into memory of its own, judged again by the
 // reader and held against the table, and only then copied to the output.
+#![tactic(auto)]
+
 ghost use Rattle.std.specs.Prelude.{◌≡◌, ◌++◌, ◌≤◌, length, drop};
 ghost use Rattle.grammar.specs.Emit.{wrote, emitted};
 ghost use Rattle.grammar.specs.Writer.{confirmed, writing};
