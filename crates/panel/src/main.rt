@@ -13,7 +13,7 @@ const SHEET: usize = MAX_SHEET + 1;
 const PRINT: usize = 1048576;
 
 // How many bytes were read, or that a read failed.
-#[derive(Drop)]
+#[derive(Clone, Copy)]
 enum Input {
     Bytes(usize),
     Failed,

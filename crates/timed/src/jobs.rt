@@ -40,14 +40,14 @@ pub fn numbers() -> u64 {
 const MARKED: usize = 31;
 
 // A register after a filing, and where the random numbers stand.
-#[derive(Drop)]
+#[derive(Clone, Copy)]
 struct Filed {
     register: Register,
     seed: u64,
 }
 
 // A register after all its rows were filed, and how many of the filings left the mark.
-#[derive(Drop)]
+#[derive(Clone, Copy)]
 struct Round {
     register: Register,
     kept: u64,
