@@ -1,12 +1,13 @@
 -- `emission::front_to` meets its contract. Assumes nothing.
-use mathlib.Core.Path.{refl}
 use mathlib.Core.Logic.{⊎_elim}
+use mathlib.Core.Path.{refl}
 use native.Mathlib.Omega.{arith}
 use Rattle.grammar.specs.Table.{METHOD, FIELD, LOCALS, PROPERTY, SIZE, LOW}
 use Rattle.grammar.specs.Emit.{layout_of, parts_of}
 use Rattle.emission.proofs.Laws.{spelt_more}
 use Rattle.emission.proofs.Steps.{front_instance, front_field, front_locals, front_three, front_plain, spelt_front}
 use Rattle.emission.proofs.front_to.Goals as goal
+use Rattle.emission.proofs.front_to.Goals.{then-kind-lt20, else-kind-lt20+else-kind-lt30+then-kind-lt33, in_default-via-then-kind-lt17, in_default-via-else-kind-lt17+else-kind-lt20+then-kind-lt30, in_default-via-else-kind-lt17+else-kind-lt20+else-kind-lt30+else-kind-lt33}
 
 pub returns-in-21 : goal.returns-in-21
 unfolding parts_of layout_of
@@ -41,9 +42,25 @@ returns-in-261 c =
 pub returns-in-17 : goal.returns-in-17
 unfolding parts_of layout_of
 returns-in-17 c =
-    let a = c.args in let r = a.rec in spelt_front _ _ r r.kind refl (⊎_elim (λ e. front_three a.table.now a.n r _ 0x11 refl refl refl (omega arith) (omega arith)) (λ e. front_three a.table.now a.n r _ 0x1E refl refl refl (omega arith) (omega arith)) c.in-17-1.branch) c.pair_to-in-17.ensures
+    let a = c.args in
+    let r = a.rec in
+    spelt_front _ _ r r.kind refl
+    (elim c.in-17-1.branch [
+      then-kind-lt20 w ↦ front_three a.table.now a.n r _ 0x11 refl refl refl (omega arith) (omega arith)
+      | else-kind-lt20+else-kind-lt30+then-kind-lt33 w ↦ front_three a.table.now a.n r _ 0x1E refl refl refl (omega arith) (omega arith)
+    ])
+    c.pair_to-in-17.ensures
 
 pub returns-in_default : goal.returns-in_default
 unfolding parts_of layout_of
 returns-in_default c =
-    let a = c.args in let r = a.rec in let n = c.in_default-1.rest in spelt_front _ _ r r.kind refl (front_plain a.table.now a.n r n.0.0.0.0.0.1 n.0.0.0.0.1 n.0.0.0.1 n.0.0.1 n.0.1 n.1 (⊎_elim (λ e. omega arith) (⊎_elim (λ e. omega arith) (λ e. omega arith)) c.in_default.branch)) c.number_to-in_default.ensures
+    let a = c.args in
+    let r = a.rec in
+    spelt_front _ _ r r.kind refl
+    (front_plain a.table.now a.n r (λ e. omega arith) (λ e. omega arith) (λ e. omega arith) (λ e. omega arith) (λ e. omega arith) (λ e. omega arith)
+    (elim c.in_default.branch [
+      in_default-via-then-kind-lt17 w ↦ omega arith
+      | in_default-via-else-kind-lt17+else-kind-lt20+then-kind-lt30 w ↦ omega arith
+      | in_default-via-else-kind-lt17+else-kind-lt20+else-kind-lt30+else-kind-lt33 w ↦ omega arith
+    ]))
+    c.number_to-in_default.ensures
