@@ -13,4 +13,4 @@ acks_by-requires c =
 
 pub returns : goal.returns
 returns c =
-    (prints_then _ _ _ _ _ _ _ _ c.head_to-here.ensures c.acks_by.ensures.0).1
+    (prints_then _ _ _ _ _ _ _ _ c.head_to-here.ensures c.acks_by.ensures.prints).1

@@ -14,7 +14,7 @@ asked_by-asked-requires c = (c.requires, c.loop-i-test.true)
 
 pub loop-i-preserved : goal.loop-i-preserved
 loop-i-preserved c =
-    (omega (arith, c.loop-i-test.true), c.row_line_to-end.auto.0 ∙ c.loop-i.invariant.1, λ q new p. c.loop-i.invariant.2 q new (rows_next _ _ _ _ _ c.loop-i-test.true c.asked_by-asked.ensures _ _ q _ _ new c.row_line_to-end.ensures p))
+    (omega (arith, c.loop-i-test.true), c.row_line_to-end.auto.out ∙ c.loop-i.invariant.1, λ q new p. c.loop-i.invariant.2 q new (rows_next _ _ _ _ _ c.loop-i-test.true c.asked_by-asked.ensures _ _ q _ _ new c.row_line_to-end.ensures p))
 
 pub shape_of-out : goal.shape_of-out
 shape_of-out c = c.loop-i.invariant.1

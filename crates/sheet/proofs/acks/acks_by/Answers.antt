@@ -23,11 +23,11 @@ shape_of-marks-in-Bad c = c.loop-left.invariant.1
 
 pub returns-in-Bad : goal.returns-in-Bad
 returns-in-Bad c =
-    let e = list_cut (checked_at _) (λ v next. v) _ c.checked_at.ensures _ c.loop-left-test.true c.in-Bad.is in (c.loop-left.invariant.2 _ _ (lines_none _ _ _ _ e _ _), marks_none _ _ _ _ e c.loop-left.invariant.3)
+    let e = list_cut (checked_at _) (λ v next. v) _ c.checked_at.ensures _ c.loop-left-test.true c.in-Bad.is in record { prints = c.loop-left.invariant.2 _ _ (lines_none _ _ _ _ e _ _); marks_after = marks_none _ _ _ _ e c.loop-left.invariant.3 }
 
 pub loop-left-preserved : goal.loop-left-preserved
 loop-left-preserved c =
-    let e = list_next (checked_at _) (λ v next. v) _ c.checked_at.ensures _ c.loop-left-test.true c.in-Good.is in let i = c.loop-left.invariant in let p = c.ack_row-code.ensures in (c.ack_line_to-end.auto.0 ∙ i.0, ap length p.1 ∙ length_ack _ _ _ _ ∙ i.1, (λ q new t. i.2 q new (lines_next _ _ _ _ e p.1 p.0 _ _ q _ _ new c.ack_line_to-end.ensures t)), marks_next _ _ _ _ e p.1 i.3)
+    let e = list_next (checked_at _) (λ v next. v) _ c.checked_at.ensures _ c.loop-left-test.true c.in-Good.is in let i = c.loop-left.invariant in let p = c.ack_row-code.ensures in (c.ack_line_to-end.auto.out ∙ i.0, ap length p.1 ∙ length_ack _ _ _ _ ∙ i.1, (λ q new t. i.2 q new (lines_next _ _ _ _ e p.1 p.0 _ _ q _ _ new c.ack_line_to-end.ensures t)), marks_next _ _ _ _ e p.1 i.3)
 
 pub shape_of-out : goal.shape_of-out
 shape_of-out c = c.loop-left.invariant.0
@@ -37,4 +37,4 @@ shape_of-marks c = c.loop-left.invariant.1
 
 pub returns : goal.returns
 returns c =
-    let e = list_none (checked_at _) (λ v next. v) _ _ c.loop-left-test.false in (c.loop-left.invariant.2 _ _ (lines_none _ _ _ _ e _ _), marks_none _ _ _ _ e c.loop-left.invariant.3)
+    let e = list_none (checked_at _) (λ v next. v) _ _ c.loop-left-test.false in record { prints = c.loop-left.invariant.2 _ _ (lines_none _ _ _ _ e _ _); marks_after = marks_none _ _ _ _ e c.loop-left.invariant.3 }

@@ -38,7 +38,7 @@ overflow_add-row c =
 
 pub loop-left-preserved : goal.loop-left-preserved
 loop-left-preserved c =
-    (omega (arith, c.loop-left.invariant.0, c.loop-left-test.true), filed-next _ _ _ _ c.loop-left.invariant.1 _ _ _ _ (blob-within _ _ c.blob_at.ensures c.in-Good.is).0 (list_next (blob_at _) _ _ c.blob_at.ensures _ c.loop-left-test.true c.in-Good.is) _ _ c.file-changed.ensures, c.file-changed.auto.1.1.1.0 ∙ c.loop-left.invariant.2)
+    (omega (arith, c.loop-left.invariant.0, c.loop-left-test.true), filed-next _ _ _ _ c.loop-left.invariant.1 _ _ _ _ (blob-within _ _ c.blob_at.ensures c.in-Good.is).0 (list_next (blob_at _) _ _ c.blob_at.ensures _ c.loop-left-test.true c.in-Good.is) _ _ c.file-changed.ensures, c.file-changed.auto.sets ∙ c.loop-left.invariant.2)
 
 pub shape_of-sets : goal.shape_of-sets
 shape_of-sets c = c.loop-left.invariant.2
