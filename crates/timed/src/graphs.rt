@@ -9,7 +9,7 @@ pub type Sets = [u32; MAX_SIZE * WORDS];
 type Blob = [u8; 16];
 
 // Each row names the next, and the last one the first or none; or each names four rows at random.
-#[derive(Drop)]
+#[derive(Clone, Copy)]
 pub enum Graph {
     Cycle,
     Line,
@@ -17,7 +17,7 @@ pub enum Graph {
 }
 
 // A type: its bytes, how many they are, and where the random numbers stand after it.
-#[derive(Drop)]
+#[derive(Clone, Copy)]
 pub struct Made {
     pub blob: Blob,
     pub length: usize,

@@ -18,7 +18,7 @@ fn sum_of(s: &[u8]) -> u64 {
     while at < s.len() {
         match number::checked::checked_at(s, at) {
             Checked::Good { value, next } => {
-                sum = std::num::wrapping_add_u64(sum, value as u64);
+                sum = sum.wrapping_add(value as u64);
                 at = next;
             }
             Checked::Bad { refusal: _ } => return sum,
@@ -40,14 +40,14 @@ pub fn numbers() -> u64 {
 const MARKED: usize = 31;
 
 // A register after a filing, and where the random numbers stand.
-#[derive(Drop)]
+#[derive(Clone, Copy)]
 struct Filed {
     register: Register,
     seed: u64,
 }
 
 // A register after all its rows were filed, and how many of the filings left the mark.
-#[derive(Drop)]
+#[derive(Clone, Copy)]
 struct Round {
     register: Register,
     kept: u64,
