@@ -12,13 +12,13 @@ pub const MAX_SIZE: usize = 512;
 pub const WORDS: usize = 16;
 
 // A number, 0 for done, with its place: how many nodes or bytes there are, or where a refusal stands.
-#[derive(Drop)]
+#[derive(Clone, Copy)]
 pub struct Answer {
     pub code: u32,
     pub place: usize,
 }
 
-#[derive(Drop)]
+#[derive(Clone, Copy)]
 pub struct Asked {
     pub code: u32,
     pub standing: u32,

@@ -10,7 +10,7 @@ use number::token::{Counts, row_counts};
 pub const LONGEST: usize = 8192;
 
 // A line: whether it has a case, the case but for its bytes, how many these are, and where the next line starts.
-#[derive(Drop)]
+#[derive(Clone, Copy)]
 pub struct Row {
     pub case: bool,
     pub kind: u32,

@@ -113,10 +113,10 @@ all_fit : (p : Place) → fits p ≡ true
 unfolding form_of entries bare leads places fits
 all_fit p = at_place fits (λ q. true) refl p
 
-pub type_form : (p : Place) (b : ℕ) → is_type_place p ≡ true → type_form (form_of p b) ≡ true
+pub type_form-fits : (p : Place) (b : ℕ) → is_type_place p ≡ true → type_form (form_of p b) ≡ true
 unfolding form_of fits
-type_form p b t = lookup-passes type_form (entries p) b refl (rw t at (all_fit p))
+type_form-fits p b t = lookup-passes type_form (entries p) b refl (rw t at (all_fit p))
 
-pub signature-form : (p : Place) (b : ℕ) → is_type_place p ≡ false → signature_form (form_of p b) ≡ true
+pub signature_form-fits : (p : Place) (b : ℕ) → is_type_place p ≡ false → signature_form (form_of p b) ≡ true
 unfolding form_of fits
-signature-form p b t = lookup-passes signature_form (entries p) b refl (rw t at (all_fit p))
+signature_form-fits p b t = lookup-passes signature_form (entries p) b refl (rw t at (all_fit p))

@@ -12,7 +12,7 @@ use grammar::{FIELD, LOCALS, LOW, METHOD, Node, PROPERTY, SIZE};
 const ARRAY: u32 = 0x14;
 
 // Where the next byte goes and which record is next; or the table has no blob that fits.
-#[derive(Drop)]
+#[derive(Clone, Copy)]
 pub enum Emit {
     Next { at: usize, node: usize },
     Stop,
@@ -20,7 +20,7 @@ pub enum Emit {
 
 // What is emitted of a record: its subtree, with where the next byte goes and which record is next; or its own bytes, with so many children to come;
 // or the table has no blob that fits.
-#[derive(Drop)]
+#[derive(Clone, Copy)]
 enum Part {
     Goes { at: usize, children: u32 },
     Ends { at: usize, node: usize },

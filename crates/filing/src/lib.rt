@@ -14,7 +14,7 @@ use number::token::Counts;
 mod named;
 
 // What is kept of a judged blob beside its set of rows.
-#[derive(Drop)]
+#[derive(Clone, Copy)]
 pub struct Finding {
     pub state: u8,
     pub code: u8,

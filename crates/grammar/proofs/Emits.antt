@@ -37,8 +37,8 @@ unfolding flat
 length_flat [] = refl
 length_flat (r ∷ rs) = let z = length_flat rs in omega arith
 
-pub record_at : (r : Node) (rest pre : List ℕ) (n : ℕ) → length pre ≡ 6 * n → record_at (pre ++ (six r ++ rest)) n ≡ r
-record_at r rest pre n h =
+pub record_at-six : (r : Node) (rest pre : List ℕ) (n : ℕ) → length pre ≡ 6 * n → record_at (pre ++ (six r ++ rest)) n ≡ r
+record_at-six r rest pre n h =
     rw (← h)
     (λ i. record {
       kind = get_or-0 i;
@@ -59,7 +59,7 @@ listed_flat (r ∷ rs) pre n h =
     let z₁ = length-append pre (six r ++ flat rs) in
     let z₂ = length-append pre (six r) in (
       omega arith,
-      record_at r (flat rs) pre n h,
+      record_at-six r (flat rs) pre n h,
       subst (λ (l : List ℕ). Listed l (n + 1) rs) (append_assoc pre (six r) (flat rs)) (listed_flat rs (pre ++ six r) (n + 1) (omega arith)),
     )
 

@@ -40,7 +40,7 @@ pub const SIZE: u32 = 0x104;
 pub const LOW: u32 = 0x105;
 
 // One record of the node table.
-#[derive(Drop)]
+#[derive(Clone, Copy)]
 pub struct Node {
     // the element byte, or a number from 100 hex up for a node that has none
     pub kind: u32,

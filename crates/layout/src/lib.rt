@@ -15,7 +15,7 @@ pub const MAX_SHEET: usize = 65536;
 const SECTIONS: usize = 3;
 
 // The offsets at which the items of each section begin.
-#[derive(Drop)]
+#[derive(Clone, Copy)]
 pub struct Starts {
     pub counts: usize,
     pub blobs: usize,
@@ -23,7 +23,7 @@ pub struct Starts {
 }
 
 // Where the items begin, how many blobs there are, which is the number of rows, and how many acknowledgements.
-#[derive(Drop)]
+#[derive(Clone, Copy)]
 pub struct Layout {
     pub starts: Starts,
     pub rows: u32,
@@ -31,7 +31,7 @@ pub struct Layout {
 }
 
 // A sheet's layout, or the place of its first fault.
-#[derive(Drop)]
+#[derive(Clone, Copy)]
 pub enum Parsed {
     Refused(usize),
     Accepted(Layout),

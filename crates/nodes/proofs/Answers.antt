@@ -18,7 +18,7 @@ use Rattle.grammar.specs.Judge.{Out, fault, done, judge, reading}
 use Rattle.grammar.specs.declared.Node.{Node}
 use Rattle.grammar.proofs.Sound.{Holds, holds, holds_bind, holds_check, holds_done}
 use Rattle.grammar.proofs.Bounds.{Ends, ends-judge, ends-reading}
-use Rattle.grammar.proofs.Emits.{record_at}
+use Rattle.grammar.proofs.Emits.{record_at-six}
 use Rattle.grammar.proofs.Refusals.{read_refuses, refusal_byte}
 use Rattle.answer.specs.Answers.{answer}
 use Rattle.reader.specs.Answer.{answer_of, table_of}
@@ -48,7 +48,7 @@ nodes-flat [] rest pre i h = refl
 nodes-flat (r ∷ rs) rest pre i h =
     let z : length (pre ++ six r) ≡ 6 * (i + 1) = length-append pre (six r) ∙ omega (arith, h) in
     let g : pre ++ (six r ++ (flat rs ++ rest)) ≡ (pre ++ six r) ++ (flat rs ++ rest) = sym (append_assoc pre (six r) (flat rs ++ rest)) in
-    ap {B = List Node} (λ (x : Node). x ∷ nodes_from (pre ++ (six r ++ (flat rs ++ rest))) (i + 1) (length rs)) (record_at r (flat rs ++ rest) pre i h)
+    ap {B = List Node} (λ (x : Node). x ∷ nodes_from (pre ++ (six r ++ (flat rs ++ rest))) (i + 1) (length rs)) (record_at-six r (flat rs ++ rest) pre i h)
     ∙ ap {B = List Node} (λ (t : List ℕ). r ∷ nodes_from t (i + 1) (length rs)) g
     ∙ ap {B = List Node} (λ (x : List Node). r ∷ x) (nodes-flat rs rest (pre ++ six r) (i + 1) z)
 

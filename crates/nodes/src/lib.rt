@@ -20,7 +20,7 @@ const BLANK: Node = Node {
 };
 
 // What `record_of` gives: the call's answer, and one record.
-#[derive(Drop)]
+#[derive(Clone, Copy)]
 pub struct Found {
     pub answer: Answer,
     pub node: Node,

@@ -5,7 +5,7 @@ ghost use Rattle.number.specs.Checked.{checked_at, count_at};
 use crate::Number;
 
 // A number that passed its checks and the offset after it, or the number of its refusal. The refusal's place is the number's start.
-#[derive(Drop)]
+#[derive(Clone, Copy)]
 pub enum Checked {
     Good { value: u32, next: usize },
     Bad { refusal: u32 },

@@ -14,7 +14,7 @@ pub const MAX_NUMBER: u32 = 0x1FFFFFFF;
 
 // What stands where a number is due: its value and the offset after it; bytes that end before or inside it; a first byte that no
 // number has; a form longer than the value needs.
-#[derive(Drop)]
+#[derive(Clone, Copy)]
 pub enum Number {
     Value { value: u32, next: usize },
     Cut,

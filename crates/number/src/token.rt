@@ -13,7 +13,7 @@ pub const MOD_TAGS: u32 = 3;
 pub const TYPE_SPEC_TAG: u32 = 2;
 
 // The row counts of the tables TypeDef, TypeRef and TypeSpec.
-#[derive(Drop)]
+#[derive(Clone, Copy)]
 pub struct Counts {
     pub defs: u32,
     pub refs: u32,

@@ -23,7 +23,7 @@ use Rattle.element.specs.declared.Form.TheVariants.{Refused, Leaf, Named, Variab
 use Rattle.grammar.specs.Limits.{max_nodes}
 use Rattle.grammar.specs.Table.{entry, kind_of}
 use Rattle.grammar.specs.Judge.{Out, fault, done, bind, check, numbered, many, Reader, callable, body, opened, node}
-use Rattle.element.proofs.Places.{is_fn_ptr_method, fn_ptr_method, type_form, signature_form, type_form, signature-form}
+use Rattle.element.proofs.Places.{is_fn_ptr_method, fn_ptr_method, type_form, signature_form, type_form-fits, signature_form-fits}
 use Rattle.grammar.proofs.Places.{type_kind}
 use Rattle.grammar.proofs.Sound.{both_left, both_right}
 use Rattle.grammar.proofs.Complete.{both}
@@ -202,14 +202,14 @@ module _ (s : List ℕ) (counts : Counts) (p : Place) (at n d : ℕ) where
   node-open t =
       let k = node-opened d s counts p at n in
       k.1.1 ∙ opened-coded (λ x. on_open x (node (d - 1) s) (d - 1) s counts at n) Open.Shut (λ r q. refl) d s p at n k.0 _
-      (λ h. k.1.0 h _ _ ∙ rw (type_kind p (get_or s at 0) t) (body_open (node (d - 1) s) (d - 1) s counts at n (get_or s at 0) _ (type_form p (get_or s at 0) t)))
+      (λ h. k.1.0 h _ _ ∙ rw (type_kind p (get_or s at 0) t) (body_open (node (d - 1) s) (d - 1) s counts at n (get_or s at 0) _ (type_form-fits p (get_or s at 0) t)))
 
   pub node-lead : is_type_place p ≡ false → node d s counts p at n ≡ on_lead (lead_at d s p at n) (node (d - 1) s) counts at n
   unfolding lead_at on_lead
   node-lead t =
       let k = node-opened d s counts p at n in
       k.1.1 ∙ opened-coded (λ x. on_lead x (node (d - 1) s) counts at n) Begun.Shut (λ r q. refl) d s p at n k.0 _
-      (λ h. k.1.0 h _ _ ∙ body-lead (node (d - 1) s) (d - 1) s counts at n (kind_of p (get_or s at 0)) (get_or s at 0) _ (signature-form p (get_or s at 0) t))
+      (λ h. k.1.0 h _ _ ∙ body-lead (node (d - 1) s) (d - 1) s counts at n (kind_of p (get_or s at 0)) (get_or s at 0) _ (signature_form-fits p (get_or s at 0) t))
 
 -- ---- what an opening says of its children's places
 
@@ -296,7 +296,7 @@ module _ (s : List ℕ) (counts : Counts) (p : Place) (at n d : ℕ) where
 
   pub open_one : is_type_place p ≡ true → {h : Head} {q : Place} {next : ℕ} → open_at d counts s p at n ≡ Open.One h q next → is_type_place q ≡ true
   unfolding open_at
-  open_one t e = sym (ap sorted e) ∙ coded-sorted sorted d s p at n Open.Shut _ (λ r q. refl) (head_sorted (form_of p (get_or s at 0)) counts s (get_or s at 0) at (type_form p (get_or s at 0) t))
+  open_one t e = sym (ap sorted e) ∙ coded-sorted sorted d s p at n Open.Shut _ (λ r q. refl) (head_sorted (form_of p (get_or s at 0)) counts s (get_or s at 0) at (type_form-fits p (get_or s at 0) t))
 
 module _ (s : List ℕ) (p : Place) (at n d : ℕ) where
   pub lead-begins : {l : Lead} → lead_at d s p at n ≡ Begun.Go l → (0 < d) × (at < length s) × (n < max_nodes)
@@ -307,5 +307,5 @@ module _ (s : List ℕ) (p : Place) (at n d : ℕ) where
   unfolding lead_at
   lead-types t {l} e =
       let h = sym (ap sorted_lead e)
-      ∙ coded-sorted sorted_lead d s p at n Begun.Shut _ (λ r q. refl) (form-sorted (form_of p (get_or s at 0)) s (kind_of p (get_or s at 0)) (get_or s at 0) at (signature-form p (get_or s at 0) t)) in
+      ∙ coded-sorted sorted_lead d s p at n Begun.Shut _ (λ r q. refl) (form-sorted (form_of p (get_or s at 0)) s (kind_of p (get_or s at 0)) (get_or s at 0) at (signature_form-fits p (get_or s at 0) t)) in
       (both_left _ _ h, both_right (is_type_place l.first) _ h)

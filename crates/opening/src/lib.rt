@@ -15,7 +15,7 @@ pub mod table;
 pub mod types;
 
 // A node's own numbers: its record's, but for the offset and the index after it.
-#[derive(Drop)]
+#[derive(Clone, Copy)]
 pub struct Head {
     pub kind: u32,
     pub a: u32,
@@ -35,14 +35,14 @@ pub fn head_of(kind: u32, a: u32, b: u32, children: u32) -> Head
 }
 
 // Where a walk goes on, with the index of the next node; or the refusal's number and offset.
-#[derive(Drop)]
+#[derive(Clone, Copy)]
 pub enum Walk {
     Next { at: usize, node: usize },
     Stop { refusal: u32, at: usize },
 }
 
 // A node's code byte, allowed or not, where there is room for the node; or a refusal's number.
-#[derive(Drop)]
+#[derive(Clone, Copy)]
 pub enum Code {
     Shut { refusal: u32 },
     Byte { byte: u8 },

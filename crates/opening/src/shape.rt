@@ -12,7 +12,7 @@ use grammar::{LOW, MAX_NODES, MAX_RANK, SIZE};
 use number::checked::{Checked, checked_at, count_at};
 
 // What an array's shape gives: the array's own numbers and where the walk goes on, or the refusal's number and offset.
-#[derive(Drop)]
+#[derive(Clone, Copy)]
 pub enum Shape {
     Done { head: Head, at: usize, node: usize },
     Stop { refusal: u32, at: usize },

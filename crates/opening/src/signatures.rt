@@ -10,7 +10,7 @@ use number::MAX_NUMBER;
 use number::checked::{Checked, checked_at, count_at};
 
 // A signature's own numbers, but for its children; and the types that follow: how many, the place of the first, that of the others, and the offset.
-#[derive(Drop)]
+#[derive(Clone, Copy)]
 pub struct Lead {
     pub kind: u32,
     pub a: u32,
@@ -22,7 +22,7 @@ pub struct Lead {
 }
 
 // A signature before its types; or the refusal's number and offset.
-#[derive(Drop)]
+#[derive(Clone, Copy)]
 pub enum Begun {
     Shut { refusal: u32, at: usize },
     Go { lead: Lead },

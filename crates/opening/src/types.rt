@@ -12,7 +12,7 @@ use number::token::{Counts, MOD_TAGS, TYPE_TAGS, token_at};
 
 // A type before its children: refused, with the refusal's number and offset; without children; with one, in a place of a type; with some, each a Type;
 // FNPTR, before its method; an array, whose numbers stand behind its first child.
-#[derive(Drop)]
+#[derive(Clone, Copy)]
 pub enum Open {
     Shut {
         refusal: u32,

@@ -17,7 +17,7 @@ const FEW: usize = 64;
 
 const FEW_WORDS: usize = FEW / bits::WORD_BITS;
 
-#[derive(Drop)]
+#[derive(Clone, Copy)]
 pub struct Register {
     // the row counts of the tables; that of TypeSpec is the number of rows
     pub counts: Counts,
@@ -31,7 +31,7 @@ pub struct Register {
 }
 
 // The number that a call answers, and the register afterwards.
-#[derive(Drop)]
+#[derive(Clone, Copy)]
 pub struct Changed {
     pub code: u32,
     pub register: Register,

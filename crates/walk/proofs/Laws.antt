@@ -20,7 +20,6 @@ use Rattle.opening.specs.declared.Head.{Head}
 use Rattle.opening.specs.declared.Walk.{Walk}
 use Rattle.opening.specs.declared.Walk.TheVariants.{Next, Stop}
 use Rattle.opening.specs.declared.shape.Shape.{Shape}
-use Rattle.opening.specs.declared.shape.Shape.TheVariants as Shape
 use Rattle.opening.proofs.Stamp.{length_put, stamp-put, put-after}
 use Rattle.opening.proofs.Walks.{clash, series-stop, series-next}
 use Rattle.opening.proofs.Shapes.{array_shape, typed_stop, typed_shape}

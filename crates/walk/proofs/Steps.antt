@@ -19,9 +19,7 @@ use Rattle.opening.specs.Means.{sealed, series, signature_of, on_lead, on_open}
 use Rattle.opening.specs.declared.Head.{Head}
 use Rattle.opening.specs.declared.signatures.Lead.{Lead}
 use Rattle.opening.specs.declared.signatures.Begun.{Begun}
-use Rattle.opening.specs.declared.signatures.Begun.TheVariants as Begun
 use Rattle.opening.specs.declared.types.Open.{Open}
-use Rattle.opening.specs.declared.types.Open.TheVariants as Open
 use Rattle.opening.proofs.Opens.{series-same, one-series, node-open, is_shut, open_begins, open_one, node-lead, lead-begins, lead-types}
 use Rattle.opening.specs.Table.{small_of, seals_of, Sealed}
 use Rattle.opening.specs.Walk.{walk_of, Walked}
@@ -30,7 +28,6 @@ use Rattle.opening.specs.declared.Walk.TheVariants.{Next, Stop}
 use Rattle.opening.proofs.Walks.{walked_fault, walked_is, found, still, walked_seal, walked_small, ends-series}
 use Rattle.walk.specs.Series.{series_of, end_of, items_of, WalkedSeries}
 use Rattle.walk.specs.declared.Series.{Series}
-use Rattle.walk.specs.declared.Series.TheVariants as Series
 
 -- ---- types_at
 

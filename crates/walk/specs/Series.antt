@@ -3,9 +3,7 @@ use Rattle.std.specs.Prelude.{ℕ, ◌≡◌, List}
 use Rattle.grammar.specs.Judge.{Out}
 use Rattle.opening.specs.Walk.{leaves, walk_of}
 use Rattle.opening.specs.declared.Walk.{Walk}
-use Rattle.opening.specs.declared.Walk.TheVariants as Walk
 use Rattle.walk.specs.declared.Series.{Series}
-use Rattle.walk.specs.declared.Series.TheVariants as Series
 
 -- how a walk over so many of them ends
 unfoldable pub series_of : Walk → ℕ → Series

@@ -26,7 +26,7 @@ use opening::types::{Open, open_at};
 use opening::{Head, Walk, head_of};
 
 // Types one after the other: where the walk goes on, and how many they are; or as in Walk.
-#[derive(Drop)]
+#[derive(Clone, Copy)]
 pub enum Series {
     Next { at: usize, node: usize, items: u32 },
     Stop { refusal: u32, at: usize },

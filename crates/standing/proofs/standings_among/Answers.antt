@@ -1,0 +1,10 @@
+-- `standing::standings_among` meets its contract. Assumes nothing.
+use mathlib.Core.Path.{◌∙◌}
+use Rattle.standing.proofs.Standings.{standing-in, filled-cong}
+use Rattle.standing.proofs.standings_among.Goals as goal
+
+pub returns : goal.returns
+returns c =
+    let a = c.args in
+    c.fill_standings.ensures
+    ∙ filled-cong _ _ _ _ (λ i hi. standing-in a.w a.v a.n a.sets.now _ c.closure.ensures a.states.now i hi)
