@@ -148,6 +148,7 @@ module _ (q : ℕ) (hq : 1 ≤ q) where
 
   marked-marked : (b : Model) (cs : List Call) → Marked q b cs → HasMark (end_m b cs) q
   unfolding end_m
+  marked-marked b [] x' = elim x' [ ]
   marked-marked b (_ ∷ cs) (here a k) = kept-marked (next_m b (acknowledging q)) cs (ack_marks b a) k
   marked-marked b (c ∷ cs) (later m) = marked-marked (next_m b c) cs m
 

@@ -273,10 +273,10 @@ module _ {b : Model} {g : Register} {l : List ℕ} (m : Sim b g l) where
 -- ---- any list of calls
 pub run : {b : Model} {h : Held} (cs : List Call) → SimH b h → (answers_r h cs ≡ answers_m b cs) × SimH (end_m b cs) (end_r h cs)
 unfolding answers_r answers_m end_m end_r
-run [] m = (refl, m)
+run {b} {h} [] m = (refl, m)
 run {b} {h} (c ∷ cs) m =
     let s = step m c in
-    let r = run cs s.1 in
+    let r = run {b = next_m b c} {h = next_r h c} cs s.1 in
     (rw (s.0, r.0), r.1)
 
 -- ---- the opening

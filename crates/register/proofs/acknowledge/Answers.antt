@@ -1,0 +1,21 @@
+-- `register::acknowledge` meets its contract. Assumes nothing.
+use borrow.Author.Tests.{eq-eqb, ne_eqb}
+use mathlib.Core.Path.{sym, ◌∙◌}
+use native.Mathlib.Omega.{arith}
+use Rattle.register.specs.Calls.{acknowledge_of}
+use Rattle.answer.proofs.Admits.{admit_ok}
+use Rattle.register.proofs.acknowledge.Goals as goal
+
+pub returns-then-no-ne0 : goal.returns-then-no-ne0
+unfolding acknowledge_of
+returns-then-no-ne0 c = simp (← c.admit_code-no.ensures, ne_eqb _ _ c.if-no-ne0.true)
+
+pub overflow_sub-row : goal.overflow_sub-row
+overflow_sub-row c = let h = admit_ok _ _ _ (sym c.admit_code-no.ensures ∙ c.if-no-ne0.false) in omega arith
+
+pub acknowledge_at-requires : goal.acknowledge_at-requires
+acknowledge_at-requires c = let h = admit_ok _ _ _ (sym c.admit_code-no.ensures ∙ c.if-no-ne0.false) in omega arith
+
+pub returns : goal.returns
+unfolding acknowledge_of
+returns c = simp (← c.admit_code-no.ensures, eq-eqb _ _ c.if-no-ne0.false) c.acknowledge_at.ensures
