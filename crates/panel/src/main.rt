@@ -102,10 +102,10 @@ fn run_file<'a>(rt: &(impl Files + Print), name: &'a str) -> Result<(), Failure<
     }
 }
 
-fn bad_name() -> Failure<'static> {
+fn bad_name(reason: &str) -> Failure<'static> {
     Failure::Io {
         name: "the file's name",
-        reason: io::Error::from(ErrorKind::InvalidFilename),
+        reason: io::Error::new(ErrorKind::InvalidFilename, reason),
     }
 }
 
@@ -117,9 +117,9 @@ fn run_argument<'a>(
     match rt.arg(1, room) {
         Ok(n) => match str::from_utf8(&room[..n]) {
             Ok(name) => run_file(rt, name),
-            Err(_) => Err(bad_name()),
+            Err(_) => Err(bad_name("not UTF-8")),
         },
-        Err(FillError::TooLong) => Err(bad_name()),
+        Err(FillError::TooLong) => Err(bad_name("too long")),
         Err(FillError::NotPresent) => read_and_run(rt, &mut rt.reader(), "standard input"),
     }
 }
