@@ -11,7 +11,6 @@ use types.Run.{OneOf, miss}
 use Rattle.element.specs.contracts.Place.{the_type}
 use Rattle.element.specs.contracts.Form.{the_type as form_type_lem}
 use Rattle.element.specs.declared.Place.{Place}
-use Rattle.element.specs.declared.Place.TheVariants as Place
 use Rattle.element.specs.declared.Form.{Form}
 use Rattle.element.specs.declared.Form.TheVariants.{Refused}
 use Rattle.element.specs.Element.{by_sort, nowhere, allowed, lookup, bare, leads, entries, form_of, places, is_type_place}

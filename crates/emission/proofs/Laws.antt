@@ -16,7 +16,6 @@ use Rattle.emission.specs.Emission.{Spelt, put, cut, followed, result_of, leaves
 use Rattle.emission.specs.declared.Emit.{Emit}
 use Rattle.emission.specs.declared.Emit.TheVariants.{Next, Stop}
 use Rattle.emission.specs.declared.Part.{Part}
-use Rattle.emission.specs.declared.Part.TheVariants as Part
 
 -- an emission does not both stop and go on
 pub clash : {X : Type 0} {e m : ℕ} → Stop ≡ Next e m → X

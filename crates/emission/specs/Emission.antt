@@ -7,7 +7,6 @@ use Rattle.grammar.specs.declared.Node.{Node}
 use Rattle.emission.specs.declared.Emit.{Emit}
 use Rattle.emission.specs.declared.Emit.TheVariants.{Next, Stop}
 use Rattle.emission.specs.declared.Part.{Part}
-use Rattle.emission.specs.declared.Part.TheVariants as Part
 
 -- the bytes of a record's first part
 abbrev first_of : List (List ℕ × ℕ) → List ℕ

@@ -16,7 +16,6 @@ use Rattle.number.specs.declared.checked.Checked.TheVariants.{Good}
 use Rattle.number.specs.declared.token.Counts.{Counts}
 use Rattle.element.specs.Element.{allowed}
 use Rattle.element.specs.declared.Place.{Place}
-use Rattle.element.specs.declared.Place.TheVariants as Place
 use Rattle.element.specs.declared.Form.{Form}
 use Rattle.grammar.specs.Limits.{max_nodes, max_rank}
 use Rattle.grammar.specs.Table.{entry, kind_of, SIZE, LOW}

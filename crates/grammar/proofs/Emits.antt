@@ -12,7 +12,6 @@ use Rattle.number.specs.Number.{encode}
 use Rattle.number.proofs.Encodes.{encode-1}
 use Rattle.number.specs.declared.token.Counts.{Counts}
 use Rattle.element.specs.declared.Place.{Place}
-use Rattle.element.specs.declared.Place.TheVariants as Place
 use Rattle.grammar.specs.Limits.{max_nodes}
 use Rattle.grammar.specs.Table.{entry, SIZE, LOW, six, flat, record_at}
 use Rattle.grammar.specs.Derives.{Span, Numeral, Many, none, more, Bound, bounded, Size, Low, parameters, call, Step, leaf, named, variable, wrap, modified, counted, array, inst, method, generic, Derives}

@@ -21,7 +21,6 @@ use Rattle.number.proofs.Checks.{Way, passed, refused, number-way, count-way, to
 use Rattle.number.proofs.Agree.{Agree, narrow, agree_take, Own, checked-own, checked-width}
 use Rattle.element.specs.Element.{allowed, within, form_of}
 use Rattle.element.specs.declared.Place.{Place}
-use Rattle.element.specs.declared.Place.TheVariants as Place
 use Rattle.element.specs.declared.Form.{Form}
 use Rattle.element.specs.declared.Form.TheVariants.{Refused, Leaf, Named, Variable, Wrap, Modified, Counted, Array, Instance, Callable, Generic}
 use Rattle.grammar.specs.Refusals.{among}

@@ -11,7 +11,6 @@ use borrow.Author.Tests.{ltb-true, ltb-false, eqb-true, eqb-false, ne_eqb}
 use Rattle.number.specs.Number.{encode}
 use Rattle.element.specs.Element.{allowed, Entry, run, lookup, bare, leads, entries, form_of, places}
 use Rattle.element.specs.declared.Place.{Place}
-use Rattle.element.specs.declared.Place.TheVariants as Place
 use Rattle.element.specs.declared.Form.{Form}
 use Rattle.element.specs.declared.Form.TheVariants.{Refused, Leaf, Named, Variable, Wrap, Modified, Counted, Array, Instance, Callable, Generic}
 use Rattle.element.proofs.Runs.{outside}

@@ -17,7 +17,6 @@ use Rattle.number.specs.declared.token.Counts.{Counts}
 use Rattle.number.proofs.Checks.{Way, passed, refused, TokenRule, token-way, spec_row}
 use Rattle.element.specs.Element.{by_sort, anywhere, nowhere, within, bare, leads, entries, form_of, places}
 use Rattle.element.specs.declared.Place.{Place}
-use Rattle.element.specs.declared.Place.TheVariants as Place
 use Rattle.element.specs.declared.Form.{Form}
 use Rattle.element.specs.declared.Form.TheVariants.{Refused, Leaf, Named, Variable, Wrap, Modified, Counted, Array, Instance, Callable, Generic}
 use Rattle.element.proofs.Places.{at_place}

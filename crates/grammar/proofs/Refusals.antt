@@ -19,7 +19,6 @@ use Rattle.number.specs.declared.token.Counts.{Counts}
 use Rattle.number.proofs.Checks.{Way, passed, refused, checked-onward, number-way, count-way, token-way}
 use Rattle.element.specs.Element.{allowed, within, form_of}
 use Rattle.element.specs.declared.Place.{Place}
-use Rattle.element.specs.declared.Place.TheVariants as Place
 use Rattle.element.specs.declared.Form.{Form}
 use Rattle.element.specs.declared.Form.TheVariants.{Refused, Leaf, Named, Variable, Wrap, Modified, Counted, Array, Instance, Callable, Generic}
 use Rattle.grammar.specs.Refusals.{refusals, among, Refusal}

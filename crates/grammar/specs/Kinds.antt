@@ -1,7 +1,6 @@
 -- Document 01, "What the intake desk hands over": the kinds of signatures, and the place in the grammar of each one's root.
 use Rattle.std.specs.Prelude.{ℕ, ◌-◌, List, [], ◌∷◌, length, get_or}
 use Rattle.element.specs.declared.Place.{Place}
-use Rattle.element.specs.declared.Place.TheVariants as Place
 
 -- "Kinds: 0 TypeSpec, 1 FieldSig, 2 LocalVarSig, 3 PropertySig, 4 MethodDefSig"
 abbrev pub roots : List Place

@@ -2,7 +2,6 @@
 use Rattle.std.specs.Prelude.{ℕ, ◌+◌, ◌*◌, Bool, ◌||◌, ◌&&◌, List, [], ◌∷◌, ◌++◌, get_or, eqb}
 use Rattle.number.specs.Token.{type_spec_token}
 use Rattle.element.specs.declared.Place.{Place}
-use Rattle.element.specs.declared.Place.TheVariants as Place
 use Rattle.grammar.specs.declared.Node.{Node}
 
 -- "Each record has: kind, a, b, children, at (offset of the node's first byte), after (index just past its subtree)"

@@ -13,7 +13,6 @@ use Rattle.element.specs.declared.Place.{Place}
 use Rattle.grammar.specs.Limits.{max_nodes}
 use Rattle.opening.specs.Code.{coded, crowded_of, code_at}
 use Rattle.opening.specs.declared.Code.{Code}
-use Rattle.opening.specs.declared.Code.TheVariants as Code
 
 module _ (d : ℕ) (s : List ℕ) (p : Place) (at n : ℕ) where
   pub code_none : length s ≤ at → Code.Shut 2 ≡ code_at d s p at n

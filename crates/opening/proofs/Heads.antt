@@ -11,7 +11,6 @@ use borrow.Author.Tests.{lt-ltb, le-ltb}
 use Rattle.number.specs.declared.token.Counts.{Counts}
 use Rattle.element.specs.Element.{form_of}
 use Rattle.element.specs.declared.Place.{Place}
-use Rattle.element.specs.declared.Place.TheVariants as Place
 use Rattle.element.specs.declared.Form.{Form}
 use Rattle.element.specs.declared.Form.TheVariants.{Refused, Callable}
 use Rattle.element.specs.contracts.Form.{the_type}
@@ -20,13 +19,10 @@ use Rattle.element.proofs.Places.{unled}
 use Rattle.grammar.specs.Table.{METHOD, kind_of}
 use Rattle.opening.specs.Code.{code_at}
 use Rattle.opening.specs.declared.Code.{Code}
-use Rattle.opening.specs.declared.Code.TheVariants as Code
 use Rattle.opening.specs.Open.{instance_of, instance_at, head_at, open_at}
 use Rattle.opening.specs.Lead.{call_at, lead_form, lead_at}
 use Rattle.opening.specs.declared.types.Open.{Open}
-use Rattle.opening.specs.declared.types.Open.TheVariants as Open
 use Rattle.opening.specs.declared.signatures.Begun.{Begun}
-use Rattle.opening.specs.declared.signatures.Begun.TheVariants as Begun
 use Rattle.opening.proofs.Codes.{code_is, coded-shut, coded-some}
 
 -- ---- open_at, lead_at and fn_ptr_lead_at. y is what `code_at` gave

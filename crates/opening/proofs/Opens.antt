@@ -17,7 +17,6 @@ use Rattle.number.specs.declared.token.Counts.{Counts}
 use Rattle.number.proofs.Checks.{checked-through, checked-test}
 use Rattle.element.specs.Element.{allowed, within, bare, leads, entries, form_of, is_type_place}
 use Rattle.element.specs.declared.Place.{Place}
-use Rattle.element.specs.declared.Place.TheVariants as Place
 use Rattle.element.specs.declared.Form.{Form}
 use Rattle.element.specs.declared.Form.TheVariants.{Refused, Leaf, Named, Variable, Wrap, Modified, Counted, Array, Instance, Callable, Generic}
 use Rattle.grammar.specs.Limits.{max_nodes}
@@ -34,9 +33,7 @@ use Rattle.opening.specs.Means.{record_of, sealed, and_then, series, signature_o
 use Rattle.opening.specs.declared.Head.{Head}
 use Rattle.opening.specs.declared.signatures.Lead.{Lead}
 use Rattle.opening.specs.declared.signatures.Begun.{Begun}
-use Rattle.opening.specs.declared.signatures.Begun.TheVariants as Begun
 use Rattle.opening.specs.declared.types.Open.{Open}
-use Rattle.opening.specs.declared.types.Open.TheVariants as Open
 use Rattle.opening.proofs.Codes.{coded-begins}
 
 -- ---- how outcomes are put together

@@ -29,7 +29,6 @@ use Rattle.opening.specs.declared.Head.{Head}
 use Rattle.opening.specs.declared.Walk.{Walk}
 use Rattle.opening.specs.declared.Walk.TheVariants.{Next, Stop}
 use Rattle.opening.specs.declared.shape.Shape.{Shape}
-use Rattle.opening.specs.declared.shape.Shape.TheVariants as Shape
 use Rattle.opening.proofs.Stamp.{length_stamp, stamp-append}
 use Rattle.opening.proofs.Walks.{clash, walked_fault, walked_is, still, walked_seal}
 

@@ -4,7 +4,6 @@ use Rattle.element.specs.Element.{allowed, form_of}
 use Rattle.element.specs.declared.Place.{Place}
 use Rattle.grammar.specs.Limits.{max_nodes}
 use Rattle.opening.specs.declared.Code.{Code}
-use Rattle.opening.specs.declared.Code.TheVariants as Code
 
 -- go on at the code byte of a node for which d levels are left, or refuse it at `at`: 2, 5, 6, 10
 abbrev pub coded : {A : Type 0} → (d : ℕ) → List ℕ → Place → (at n : ℕ) → (ℕ → ℕ → A) → A → A

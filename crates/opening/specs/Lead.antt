@@ -6,7 +6,6 @@ use Rattle.number.specs.Checked.{checked_at, on_checked, count_at}
 use Rattle.number.specs.declared.checked.Checked.{Checked}
 use Rattle.element.specs.Element.{by_sort, form_of}
 use Rattle.element.specs.declared.Place.{Place}
-use Rattle.element.specs.declared.Place.TheVariants as Place
 use Rattle.element.specs.declared.Form.{Form}
 use Rattle.grammar.specs.Table.{kind_of}
 use Rattle.opening.specs.Code.{coded}

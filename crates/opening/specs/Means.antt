@@ -8,9 +8,7 @@ use Rattle.grammar.specs.declared.Node.{Node}
 use Rattle.opening.specs.declared.Head.{Head}
 use Rattle.opening.specs.declared.signatures.Lead.{Lead}
 use Rattle.opening.specs.declared.signatures.Begun.{Begun}
-use Rattle.opening.specs.declared.signatures.Begun.TheVariants as Begun
 use Rattle.opening.specs.declared.types.Open.{Open}
-use Rattle.opening.specs.declared.types.Open.TheVariants as Open
 use Rattle.opening.specs.Open.{head_of}
 
 -- the record of a node at `at`, where `after` is the index after its subtree

@@ -8,13 +8,11 @@ use Rattle.number.specs.declared.checked.Checked.{Checked}
 use Rattle.number.specs.declared.token.Counts.{Counts}
 use Rattle.element.specs.Element.{within, form_of, is_type_place}
 use Rattle.element.specs.declared.Place.{Place}
-use Rattle.element.specs.declared.Place.TheVariants as Place
 use Rattle.element.specs.declared.Form.{Form}
 use Rattle.element.specs.declared.Form.TheVariants.{Refused, Leaf, Named, Variable, Wrap, Modified, Counted, Array, Instance, Callable, Generic}
 use Rattle.opening.specs.Code.{coded}
 use Rattle.opening.specs.declared.Head.{Head}
 use Rattle.opening.specs.declared.types.Open.{Open}
-use Rattle.opening.specs.declared.types.Open.TheVariants as Open
 
 abbrev pub head_of : (kind a b children : ℕ) → Head
 head_of kind a b children = record { kind = kind; a = a; b = b; children = children }

@@ -9,9 +9,7 @@ use Rattle.opening.specs.Means.{record_of}
 use Rattle.opening.specs.Table.{stamp, Sealed}
 use Rattle.opening.specs.Walk.{Walked}
 use Rattle.opening.specs.declared.Walk.{Walk}
-use Rattle.opening.specs.declared.Walk.TheVariants as Walk
 use Rattle.opening.specs.declared.shape.Shape.{Shape}
-use Rattle.opening.specs.declared.shape.Shape.TheVariants as Shape
 
 -- a SIZE node or a LOW node
 unfoldable pub bound_at : (kind d : ℕ) → List ℕ → (at n : ℕ) → Out

@@ -7,7 +7,6 @@ use Rattle.grammar.specs.declared.Node.{Node}
 use Rattle.opening.specs.Means.{record_of}
 use Rattle.opening.specs.declared.Head.{Head}
 use Rattle.opening.specs.declared.Walk.{Walk}
-use Rattle.opening.specs.declared.Walk.TheVariants as Walk
 
 -- a record's six numbers at its index, where they fit
 unfoldable pub put_of : List ℕ → ℕ → Node → List ℕ

@@ -3,7 +3,6 @@ use Rattle.std.specs.Prelude.{ℕ, ◌≡◌, List, length}
 use Rattle.grammar.specs.Judge.{Out, fault, done}
 use Rattle.opening.specs.Table.{stamp}
 use Rattle.opening.specs.declared.Walk.{Walk}
-use Rattle.opening.specs.declared.Walk.TheVariants as Walk
 
 -- on a fault only the table's length is promised
 unfoldable pub leaves : Out → ℕ → List ℕ → List ℕ → Type 0

@@ -1,7 +1,7 @@
 -- Demand 2 at the reader's level: what the contracts of `judge` and `read` mean, by the declarative grammar. s is the blob, t the table
 -- lent, of which every six numbers are a record.
 -- Assumes nothing.
-use Prim.Native.Nat.{ℕ, ◌+◌, ◌*◌, ◌/◌, ◌≤◌}
+use Prim.Native.Nat.{ℕ, ◌*◌, ◌/◌, ◌≤◌}
 use native.Mathlib.Omega.{arith}
 use mathlib.Core.Path.{◌≡◌, refl}
 use mathlib.Core.List.{List, ◌++◌}

@@ -1,7 +1,7 @@
 -- Demand 2 back again, at the writer's level: what the contract of `write` means, by the declarative grammar, and that reading and
 -- writing undo each other. t is the flat table, o the output lent, u the table lent to the reader.
 -- Assumes nothing.
-use Prim.Native.Nat.{ℕ, ◌+◌, ◌*◌, ◌/◌, ◌≤◌, ◌<◌}
+use Prim.Native.Nat.{ℕ, ◌*◌, ◌/◌, ◌≤◌, ◌<◌}
 use native.Mathlib.Omega.{arith}
 use mathlib.Core.Path.{◌≡◌, refl, sym, ap, ◌∙◌}
 use mathlib.Core.Bool.{true, false}

@@ -1,13 +1,8 @@
-use Prim.Native.Nat.{ℕ, ◌+◌, ◌*◌, ◌≤◌, ◌<◌}
-use mathlib.Core.Path.{◌≡◌, refl, ◌∙◌}
-use mathlib.Core.List.{List}
-use mathlib.Core.Logic.{⊎_elim}
+use mathlib.Core.Path.{refl, ◌∙◌}
 use native.Mathlib.Omega.{arith}
-use lib.ListN.{length}
 use borrow.Author.Rules.{rules}
-use Rattle.grammar.specs.Emit.{times, emit}
+use Rattle.grammar.specs.Emit.{emit}
 use Rattle.emission.specs.Emission.{Emits}
-use Rattle.emission.specs.declared.Emit.{Emit}
 use Rattle.emission.proofs.Laws.{found, emits_as, last_one, part_goes, part_ends, part_stop, emits_past, next_within, spelt_then, loop_stop, loop_more, loop_end}
 use Rattle.emission.proofs.Steps.{emit-deep, emit-past, emit-array, emit-part, emit-below, times_below, array-stop, sizes_stop, array-next}
 use Rattle.emission.proofs.+all_at_array_at_part_at.Goals as goal
@@ -123,7 +118,7 @@ all_at-returns-in-Stop-w t c =
     let l = c.loop-left in
     let q = c.part_at.ensures in
     let i : Emits (emit l.deep c.args.table.now l.m) l.e c.match-part_at.w l.out c.match-part_at.out = elim c.match-part_at.branch [
-      all_at-in-Goes+else-left-eq1 w ↦ emits_as _ _ _ _ _ _ _ w.out-is w.w-is ((part_goes _ _ _ _ _ _ _ _ _ q w.in-Goes.is).3 _ _ w.all_at-w.ensures)
+      | all_at-in-Goes+else-left-eq1 w ↦ emits_as _ _ _ _ _ _ _ w.out-is w.w-is ((part_goes _ _ _ _ _ _ _ _ _ q w.in-Goes.is).3 _ _ w.all_at-w.ensures)
       | all_at-in-Ends w ↦ emits_as _ _ _ _ _ _ _ w.out-is w.w-is (part_ends _ _ _ _ _ _ _ _ _ q w.in-Ends.is)
       | all_at-in-Stop w ↦ emits_as _ _ _ _ _ _ _ w.out-is w.w-is (part_stop _ _ _ _ _ _ _ q w.in-Stop.is)
     ] in
@@ -134,12 +129,11 @@ all_at-loop-left-preserved t c =
     let l = c.loop-left in
     let q = c.part_at.ensures in
     let i : Emits (emit l.deep c.args.table.now l.m) l.e c.match-part_at.w l.out c.match-part_at.out = elim c.match-part_at.branch [
-      all_at-in-Goes+else-left-eq1 w ↦ emits_as _ _ _ _ _ _ _ w.out-is w.w-is ((part_goes _ _ _ _ _ _ _ _ _ q w.in-Goes.is).3 _ _ w.all_at-w.ensures)
+      | all_at-in-Goes+else-left-eq1 w ↦ emits_as _ _ _ _ _ _ _ w.out-is w.w-is ((part_goes _ _ _ _ _ _ _ _ _ q w.in-Goes.is).3 _ _ w.all_at-w.ensures)
       | all_at-in-Ends w ↦ emits_as _ _ _ _ _ _ _ w.out-is w.w-is (part_ends _ _ _ _ _ _ _ _ _ q w.in-Ends.is)
       | all_at-in-Stop w ↦ emits_as _ _ _ _ _ _ _ w.out-is w.w-is (part_stop _ _ _ _ _ _ _ q w.in-Stop.is)
     ] in
-    let w = c.in-Next.is in
-    (
+    let w = c.in-Next.is in (
       i.kept ∙ l.invariant.0,
       next_within _ _ _ _ _ _ (found _ _ _ _ _ _ w i),
       emit-below _ _ _ l.invariant.2 _ _ _ _ _ _ i w,

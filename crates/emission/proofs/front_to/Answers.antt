@@ -46,7 +46,7 @@ returns-in-17 c =
     let r = a.rec in
     spelt_front _ _ r r.kind refl
     (elim c.in-17-1.branch [
-      then-kind-lt20 w ↦ front_three a.table.now a.n r _ 0x11 refl refl refl (omega arith) (omega arith)
+      | then-kind-lt20 w ↦ front_three a.table.now a.n r _ 0x11 refl refl refl (omega arith) (omega arith)
       | else-kind-lt20+else-kind-lt30+then-kind-lt33 w ↦ front_three a.table.now a.n r _ 0x1E refl refl refl (omega arith) (omega arith)
     ])
     c.pair_to-in-17.ensures
@@ -59,7 +59,7 @@ returns-in_default c =
     spelt_front _ _ r r.kind refl
     (front_plain a.table.now a.n r (λ e. omega arith) (λ e. omega arith) (λ e. omega arith) (λ e. omega arith) (λ e. omega arith) (λ e. omega arith)
     (elim c.in_default.branch [
-      in_default-via-then-kind-lt17 w ↦ omega arith
+      | in_default-via-then-kind-lt17 w ↦ omega arith
       | in_default-via-else-kind-lt17+else-kind-lt20+then-kind-lt30 w ↦ omega arith
       | in_default-via-else-kind-lt17+else-kind-lt20+else-kind-lt30+else-kind-lt33 w ↦ omega arith
     ]))

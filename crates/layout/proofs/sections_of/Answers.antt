@@ -2,8 +2,6 @@
 use borrow.Author.Rules.{rules}
 use mathlib.Core.Path.{refl}
 use native.Mathlib.Omega.{arith}
-use Prim.Native.Nat.{◌-◌}
-use Rattle.layout.specs.Layout.{item_at}
 use Rattle.layout.proofs.Walks.{all_read, left_over, count-bad, count-good, item_bad, item_good, section_read}
 use Rattle.layout.proofs.sections_of.Goals as goal
 

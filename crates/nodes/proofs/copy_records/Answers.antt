@@ -17,12 +17,11 @@ loop-i-preserved c =
     let a = c.args in
     let l = c.loop-i in
     let n = c.record_at-node in
-    let inside : l.i < length a.records.now = omega (arith, c.loop-i-test.true, c.requires.1) in
-    (
+    let inside : l.i < length a.records.now = omega (arith, c.loop-i-test.true, c.requires.1) in (
       omega (arith, c.loop-i-test.true),
       ap {B = List Node} (λ (r : Node). set l.records l.i r) n.ensures
-      ∙ ap {B = List Node} (λ (rs : List Node). set rs l.i (record_at a.table.now l.i)) l.invariant.1
-      ∙ copied_one_more a.table.now l.i a.records.now inside,
+          ∙ ap {B = List Node} (λ (rs : List Node). set rs l.i (record_at a.table.now l.i)) l.invariant.1
+          ∙ copied_one_more a.table.now l.i a.records.now inside,
     )
 
 pub returns : goal.returns

@@ -2,7 +2,6 @@
 use borrow.Author.Rules.{rules}
 use mathlib.Core.Path.{◌∙◌}
 use native.Mathlib.Omega.{arith}
-use Prim.Native.Nat.{◌-◌}
 use Rattle.sheet.proofs.Rows.{rows_none, rows_next, rows_all}
 use Rattle.sheet.proofs.rows_by.Goals as goal
 

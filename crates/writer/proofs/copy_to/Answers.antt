@@ -1,6 +1,5 @@
 -- `writer::copy_to` meets its contract. Assumes nothing.
 use borrow.Author.Rules.{rules}
-use Prim.Native.Nat.{◌-◌}
 use mathlib.Core.Path.{refl}
 use native.Mathlib.Omega.{arith}
 use Rattle.writer.proofs.Lists.{copied, copied_length, copied_all}

@@ -30,8 +30,8 @@ loop-k-preserved c =
     let e : r.result ≡ row_named a.t.now l.k = r.ensures in (
       search rules,
       elim c.if-r-ne0.branch [
-        then-r-ne0 w ↦ w.m-is ∙ w.put_bit.ensures ∙ ap₂ (λ (m : List ℕ) (v : ℕ). put_bit words m a.i (v - 1)) l.invariant.1 e
-          ∙ collected_put a.t.now a.i a.m.now l.k (λ z. w.if-r-ne0.true (e ∙ z))
+        | then-r-ne0 w ↦ w.m-is ∙ w.put_bit.ensures ∙ ap₂ (λ (m : List ℕ) (v : ℕ). put_bit words m a.i (v - 1)) l.invariant.1 e
+            ∙ collected_put a.t.now a.i a.m.now l.k (λ z. w.if-r-ne0.true (e ∙ z))
         | else-r-ne0 w ↦ w.m-is ∙ l.invariant.1 ∙ collected_kept a.t.now a.i a.m.now l.k (sym e ∙ w.if-r-ne0.false)
       ],
     )

@@ -1,6 +1,5 @@
 -- `opening::shape::bounds_at` meets its contract. Assumes nothing.
 use mathlib.Core.Path.{refl, ◌∙◌}
-use Rattle.opening.specs.Shape.{bound_at}
 use Rattle.opening.proofs.Shapes.{ends-bound_at}
 use Rattle.opening.proofs.Walks.{loop_stop, loop_more, loop_end}
 use Rattle.opening.proofs.shape.bounds_at.Goals as goal

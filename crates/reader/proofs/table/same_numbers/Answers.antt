@@ -1,6 +1,5 @@
 -- `reader::table::same_numbers` meets its contract. Assumes nothing.
 use borrow.Author.Rules.{rules}
-use Prim.Native.Nat.{◌-◌}
 use mathlib.Core.Path.{refl, ◌∙◌}
 use Rattle.reader.proofs.Tables.{same_lengths, same_differ, same_step, same_end}
 use Rattle.reader.proofs.table.same_numbers.Goals as goal
