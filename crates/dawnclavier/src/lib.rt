@@ -21,13 +21,7 @@ fn pack(answer: Answer) -> u64
     (answer.code as u64) * 0x1_0000_0000 + (answer.place as u64)
 }
 
-pub fn dcl_judge(
-    kind: u32,
-    type_defs: u32,
-    type_refs: u32,
-    type_specs: u32,
-    blob: &[u8],
-) -> u64
+pub fn dcl_judge(kind: u32, type_defs: u32, type_refs: u32, type_specs: u32, blob: &[u8]) -> u64
     ensures { result ≡ pack_of (answer_of (judge kind (row_counts type_defs type_refs type_specs) blob.now)) }
 {
     let counts = row_counts(type_defs, type_refs, type_specs);
