@@ -4,10 +4,11 @@ SHELL := /bin/bash
 
 # The main job on a sample: document 01's sheet, filed, acknowledged and printed.
 run:
-	@mkdir -p target
-	@(cd crates/panel && rt run -- $(CURDIR)/examples/sample.sheet) 2>target/run.log || { cat target/run.log; exit 1; }
+	@if [ ! -e target/bin/panel ]; then echo 'building and proving the panel: the first time this takes some minutes' >&2; fi
+	@$(MAKE) --no-print-directory target/bin/panel
+	@target/bin/panel examples/sample.sheet
 
-# Everything, from nothing: rt ci (the layout of all files, every proof, every must-fail edit, every program), then the host tests. The last line is the verdict.
+# Everything: rt ci (the layout of all files, every proof, every must-fail edit, every program), then the host tests. The last line is the verdict.
 test:
 	@log=$$(mktemp); rt ci | tee $$log; if grep -Eq '^rt: ok.*, [1-9][0-9]* bad' $$log; then echo 'a must-fail edit is bad'; exit 1; fi; \
 	$(MAKE) --no-print-directory host-test; tail -n 1 $$log; rm -f $$log
