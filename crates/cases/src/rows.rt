@@ -25,14 +25,12 @@ fn until(s: &[u8], at: usize, stop: u8) -> usize
     requires { at ≤ length s.now }
     ensures { (at ≤ result) × (result ≤ length s.now) }
 {
-    let mut i = at;
-    while i < s.len() {
+    for i in at..s.len() {
         if s[i] == stop {
             return i;
         }
-        i += 1;
     }
-    i
+    s.len()
 }
 
 // The value of a digit, decimal or hexadecimal.
@@ -45,10 +43,8 @@ fn digit(c: u8) -> u64 {
 
 fn decimal(s: &[u8]) -> u64 {
     let mut n: u64 = 0;
-    let mut i = 0;
-    while i < s.len() {
-        n = n % 0x100000000 * 10 + digit(s[i]) % 16;
-        i += 1;
+    for c in s {
+        n = n % 0x100000000 * 10 + digit(*c) % 16;
     }
     n
 }
@@ -76,14 +72,12 @@ fn head(s: &[u8], values: &mut [u32]) {
 // Appends a byte n times, as far as there is room.
 fn fill(blob: &mut [u8], len: usize, byte: u8, n: u64) -> usize {
     let mut at = len;
-    let mut i: u64 = 0;
-    while i < n {
+    for _ in 0..n {
         if blob.len() <= at {
             return at;
         }
         blob[at] = byte;
         at += 1;
-        i += 1;
     }
     at
 }

@@ -1,4 +1,4 @@
-// The archive for programs in other languages: the reader and the writer on numbers and slices alone. A slice passes as a pointer and a length.
+// The archive for programs in other languages: the reader and the writer on numbers and slices alone. dawnclavier_c exports the calls.
 #![tactic(auto)]
 
 ghost use Rattle.std.specs.Prelude.{◌≡◌, ◌/◌, ◌≤◌, length};
@@ -21,22 +21,14 @@ fn pack(answer: Answer) -> u64
     (answer.code as u64) * 0x1_0000_0000 + (answer.place as u64)
 }
 
-#[unsafe(no_mangle)]
-pub extern "C" fn dcl_judge(
-    kind: u32,
-    type_defs: u32,
-    type_refs: u32,
-    type_specs: u32,
-    blob: &[u8],
-) -> u64
+pub fn dcl_judge(kind: u32, type_defs: u32, type_refs: u32, type_specs: u32, blob: &[u8]) -> u64
     ensures { result ≡ pack_of (answer_of (judge kind (row_counts type_defs type_refs type_specs) blob.now)) }
 {
     let counts = row_counts(type_defs, type_refs, type_specs);
     pack(reader::judge(kind, counts, blob))
 }
 
-#[unsafe(no_mangle)]
-pub extern "C" fn dcl_read(
+pub fn dcl_read(
     kind: u32,
     type_defs: u32,
     type_refs: u32,
@@ -50,8 +42,7 @@ pub extern "C" fn dcl_read(
     pack(reader::read(kind, counts, blob, table))
 }
 
-#[unsafe(no_mangle)]
-pub extern "C" fn dcl_write(
+pub fn dcl_write(
     kind: u32,
     type_defs: u32,
     type_refs: u32,

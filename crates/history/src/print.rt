@@ -2,68 +2,76 @@
 use cases::print::{number, text};
 use number::token::Counts;
 use register::Register;
+use std::io;
 
 // What a call is, its row and its number.
-fn call(name: &[u8], row: usize, code: u32) {
-    number(name, row as u64);
-    number(b": ", code as u64);
+fn call(rt: &impl Print, name: &[u8], row: usize, code: u32) -> io::Result<()> {
+    number(rt, name, row as u64)?;
+    number(rt, b": ", code as u64)
 }
 
-fn standing(n: u32) {
+fn standing(rt: &impl Print, n: u32) -> io::Result<()> {
     match n {
-        0 => text(b" EMPTY"),
-        1 => text(b" BAD"),
-        2 => text(b" LOOP"),
-        3 => text(b" LEANS"),
-        4 => text(b" CLEAN"),
-        _ => text(b" ?"),
+        0 => text(rt, b" EMPTY"),
+        1 => text(rt, b" BAD"),
+        2 => text(rt, b" LOOP"),
+        3 => text(rt, b" LEANS"),
+        4 => text(rt, b" CLEAN"),
+        _ => text(rt, b" ?"),
     }
 }
 
-pub fn open(counts: Counts, sets: &mut [u32]) -> Register {
+pub fn open(rt: &impl Print, counts: Counts, sets: &mut [u32]) -> io::Result<Register> {
     let c = register::open(counts, sets);
-    call(b"open ", counts.specs as usize, c.code);
-    text(b"\n");
-    c.register
+    call(rt, b"open ", counts.specs as usize, c.code)?;
+    text(rt, b"\n")?;
+    Ok(c.register)
 }
 
-pub fn file(g: Register, row: usize, blob: &[u8], sets: &mut [u32]) -> Register {
+pub fn file(
+    rt: &impl Print,
+    g: Register,
+    row: usize,
+    blob: &[u8],
+    sets: &mut [u32],
+) -> io::Result<Register> {
     let c = register::file(g, row, blob, sets);
-    call(b"file ", row, c.code);
-    text(b"\n");
-    c.register
+    call(rt, b"file ", row, c.code)?;
+    text(rt, b"\n")?;
+    Ok(c.register)
 }
 
-pub fn acknowledge(g: Register, row: usize, sets: &[u32]) -> Register {
+pub fn acknowledge(rt: &impl Print, g: Register, row: usize, sets: &[u32]) -> io::Result<Register> {
     let c = register::acknowledge(g, row, sets);
-    call(b"acknowledge ", row, c.code);
-    text(b"\n");
-    c.register
+    call(rt, b"acknowledge ", row, c.code)?;
+    text(rt, b"\n")?;
+    Ok(c.register)
 }
 
 // The answer, then standing, finding, place and mark.
-pub fn ask(g: Register, row: usize, sets: &[u32]) {
+pub fn ask(rt: &impl Print, g: Register, row: usize, sets: &[u32]) -> io::Result<()> {
     let a = register::ask(g, row, sets);
-    call(b"ask ", row, a.code);
+    call(rt, b"ask ", row, a.code)?;
     if a.code == 0 {
-        standing(a.standing);
+        standing(rt, a.standing)?;
     } else {
-        number(b" ", a.standing as u64);
+        number(rt, b" ", a.standing as u64)?;
     }
-    number(b" ", a.finding as u64);
-    number(b" ", a.place as u64);
-    number(b" ", a.mark as u64);
-    text(b"\n");
+    number(rt, b" ", a.finding as u64)?;
+    number(rt, b" ", a.place as u64)?;
+    number(rt, b" ", a.mark as u64)?;
+    text(rt, b"\n")
 }
 
-fn show_word(at: usize, word: u32) {
-    call(b"word ", at, word);
-    text(b"\n");
+fn show_word(rt: &impl Print, at: usize, word: u32) -> io::Result<()> {
+    call(rt, b"word ", at, word)?;
+    text(rt, b"\n")
 }
 
 // One of the numbers lent.
-pub fn word(sets: &[u32], at: usize) {
+pub fn word(rt: &impl Print, sets: &[u32], at: usize) -> io::Result<()> {
     if at < sets.len() {
-        show_word(at, sets[at]);
+        show_word(rt, at, sets[at])?;
     }
+    Ok(())
 }

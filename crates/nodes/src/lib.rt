@@ -1,5 +1,5 @@
-// The reader's second call: a signature blob read into the flat node table and into the caller's slice of record structs. The functions that touch
-// such a slice are few and thin, since their proofs are by hand; all else is on the flat table.
+// The reader's second call: a signature blob read into the flat node table and into the caller's slice of record structs. Few functions touch
+// such a slice; all else is on the flat table.
 #![tactic(auto)]
 
 ghost use Rattle.std.specs.Prelude.{◌≡◌, ◌<◌, ◌≤◌, ◌*◌, length};
@@ -89,7 +89,7 @@ fn record_within(kind: u32, counts: Counts, blob: &[u8], table: &mut [u32], i: u
 }
 
 // Reads a blob into the flat table and into MAX_NODES blank records of its own, and gives the answer and record i; past their end a blank one.
-// No parameter is a slice of structs: its callers need no proof by hand.
+// No parameter is a slice of structs.
 pub fn record_of(kind: u32, counts: Counts, blob: &[u8], table: &mut [u32], i: usize) -> Found
     ensures { RecordOf kind counts blob.now table.old i result table.new }
 {

@@ -6,18 +6,19 @@ use cases::rows::{LONGEST, row_at};
 use cases::{UNTOUCHED, print};
 use grammar::{MAX_NODES, Node};
 use number::token::Counts;
+use std::io;
 
 // Numbers of a table with room for 1,025 records.
 const ROOM: usize = 6150;
 
-fn show_node(node: Node) {
-    print::hex(b" ", node.kind);
-    print::hex(b" ", node.a);
-    print::hex(b" ", node.b);
-    print::hex(b" ", node.children);
-    print::hex(b" ", node.at);
-    print::hex(b" ", node.after);
-    print::text(b"\n");
+fn show_node(rt: &impl Print, node: Node) -> io::Result<()> {
+    print::hex(rt, b" ", node.kind)?;
+    print::hex(rt, b" ", node.a)?;
+    print::hex(rt, b" ", node.b)?;
+    print::hex(rt, b" ", node.children)?;
+    print::hex(rt, b" ", node.at)?;
+    print::hex(rt, b" ", node.after)?;
+    print::text(rt, b"\n")
 }
 
 // A record's six numbers.
@@ -33,17 +34,12 @@ fn six(node: Node) -> [u32; 6] {
 
 // The first index where the lists differ, or their length.
 fn agree(left: &[u32], right: &[u32]) -> usize {
-    let mut i = 0;
-    while i < left.len() {
-        if right.len() <= i {
+    for i in 0..left.len() {
+        if right.len() <= i || left[i] != right[i] {
             return i;
         }
-        if left[i] != right[i] {
-            return i;
-        }
-        i += 1;
     }
-    i
+    left.len()
 }
 
 // Whether a record is record i of the flat table.
@@ -66,20 +62,25 @@ fn blank(node: Node) -> bool {
 }
 
 // How many records, of `nodes`, are those of the flat table, one after the other; the first twelve are printed.
-fn show_records(kind: u32, counts: Counts, blob: &[u8], table: &mut [u32], nodes: usize) -> usize {
-    let mut i = 0;
-    while i < nodes {
+fn show_records(
+    rt: &impl Print,
+    kind: u32,
+    counts: Counts,
+    blob: &[u8],
+    table: &mut [u32],
+    nodes: usize,
+) -> io::Result<usize> {
+    for i in 0..nodes {
         let found = nodes::record_of(kind, counts, blob, table, i);
         let node = found.node;
         if !same(node, table, i) {
-            return i;
+            return Ok(i);
         }
         if i < 12 {
-            show_node(node);
+            show_node(rt, node)?;
         }
-        i += 1;
     }
-    i
+    Ok(nodes)
 }
 
 // Whether record i of the call's own slice is blank.
@@ -90,89 +91,112 @@ fn blank_at(kind: u32, counts: Counts, blob: &[u8], table: &mut [u32], i: usize)
 }
 
 // Reads a blob by both calls, and gives the number of nodes, 0 on a refusal.
-fn read_both(kind: u32, counts: Counts, blob: &[u8], table: &mut [u32], flat: &mut [u32]) -> usize {
+fn read_both(
+    rt: &impl Print,
+    kind: u32,
+    counts: Counts,
+    blob: &[u8],
+    table: &mut [u32],
+    flat: &mut [u32],
+) -> io::Result<usize> {
     let found = nodes::record_of(kind, counts, blob, table, 0);
     let second = found.answer;
     let first = reader::read(kind, counts, blob, flat);
-    print::outcome(b" bytes: ", second.code, second.place);
-    print::outcome(b", read ", first.code, first.place);
-    print::number(b", the tables agree to ", agree(table, flat) as u64);
-    print::text(b"\n");
+    print::outcome(rt, b" bytes: ", second.code, second.place)?;
+    print::outcome(rt, b", read ", first.code, first.place)?;
+    print::number(rt, b", the tables agree to ", agree(table, flat) as u64)?;
+    print::text(rt, b"\n")?;
     if first.code == 0 {
-        return first.place;
+        return Ok(first.place);
     }
-    0
+    Ok(0)
 }
 
 // Reads a blob into the two tables that are lent.
-fn run(kind: u32, counts: Counts, blob: &[u8], table: &mut [u32], flat: &mut [u32]) {
-    print::number(b"kind ", kind as u64);
-    print::number(b", ", blob.len() as u64);
-    let nodes = read_both(kind, counts, blob, table, flat);
-    let shown = show_records(kind, counts, blob, table, nodes);
-    print::number(b" records as in the table: ", shown as u64);
+fn run(
+    rt: &impl Print,
+    kind: u32,
+    counts: Counts,
+    blob: &[u8],
+    table: &mut [u32],
+    flat: &mut [u32],
+) -> io::Result<()> {
+    print::number(rt, b"kind ", kind as u64)?;
+    print::number(rt, b", ", blob.len() as u64)?;
+    let nodes = read_both(rt, kind, counts, blob, table, flat)?;
+    let shown = show_records(rt, kind, counts, blob, table, nodes)?;
+    print::number(rt, b" records as in the table: ", shown as u64)?;
     if blank_at(kind, counts, blob, table, nodes) {
-        print::text(b", the next blank");
+        print::text(rt, b", the next blank")?;
     }
-    print::text(b"\n");
+    print::text(rt, b"\n")
 }
 
 // With this many numbers lent.
-fn show(kind: u32, counts: Counts, blob: &[u8], lent: usize) {
+fn show(rt: &impl Print, kind: u32, counts: Counts, blob: &[u8], lent: usize) -> io::Result<()> {
     let mut table = [UNTOUCHED; ROOM];
     let mut flat = [UNTOUCHED; ROOM];
     if lent <= ROOM {
-        run(kind, counts, blob, &mut table[..lent], &mut flat[..lent]);
+        run(
+            rt,
+            kind,
+            counts,
+            blob,
+            &mut table[..lent],
+            &mut flat[..lent],
+        )?;
     }
+    Ok(())
 }
 
 // Runs the case of a row.
-fn show_row(line: &[u8]) {
+fn show_row(rt: &impl Print, line: &[u8]) -> io::Result<()> {
     let mut blob = [0u8; LONGEST];
     let row = row_at(line, 0, ROOM as u32, &mut blob);
     let length = row.length;
     if length <= LONGEST {
-        show(row.kind, row.counts, &blob[..length], row.lent);
+        show(rt, row.kind, row.counts, &blob[..length], row.lent)?;
     }
+    Ok(())
 }
 
 // The rows of the bench that are accepted.
-fn accepted() {
-    show_row(b"1: 06 08");
-    show_row(b"0: 0F 20 06 08");
-    show_row(b"0: 14 08 01 01 03 00");
-    show_row(b"0: 15 12 09 01 0E");
-    show_row(b"0: 13 80 80");
-    show_row(b"0: 20 06 12 09");
-    show_row(b"4: 20 01 01 12 49");
-    show_row(b"0: 1D*31 08");
-    show_row(b"2: 07 83 FF 08*1023");
+fn accepted(rt: &impl Print) -> io::Result<()> {
+    show_row(rt, b"1: 06 08")?;
+    show_row(rt, b"0: 0F 20 06 08")?;
+    show_row(rt, b"0: 14 08 01 01 03 00")?;
+    show_row(rt, b"0: 15 12 09 01 0E")?;
+    show_row(rt, b"0: 13 80 80")?;
+    show_row(rt, b"0: 20 06 12 09")?;
+    show_row(rt, b"4: 20 01 01 12 49")?;
+    show_row(rt, b"0: 1D*31 08")?;
+    show_row(rt, b"2: 07 83 FF 08*1023")
 }
 
 // Rows that are refused.
-fn refused() {
-    show_row(b"1: 06");
-    show_row(b"1: 06 08 08");
-    show_row(b"0:");
-    show_row(b"0: 14 08 00 00 00");
-    show_row(b"0: 13 80 7F");
-    show_row(b"0: 12 09");
-    show_row(b"4 0 17 1: 20 01 01 12 49");
-    show_row(b"0: 1D*32 08");
-    show_row(b"2: 07 84 00 08*1024");
+fn refused(rt: &impl Print) -> io::Result<()> {
+    show_row(rt, b"1: 06")?;
+    show_row(rt, b"1: 06 08 08")?;
+    show_row(rt, b"0:")?;
+    show_row(rt, b"0: 14 08 00 00 00")?;
+    show_row(rt, b"0: 13 80 7F")?;
+    show_row(rt, b"0: 12 09")?;
+    show_row(rt, b"4 0 17 1: 20 01 01 12 49")?;
+    show_row(rt, b"0: 1D*32 08")?;
+    show_row(rt, b"2: 07 84 00 08*1024")
 }
 
 // Too few numbers lent, just enough, and a tail.
-fn lent() {
-    show_row(b"1 0 18 1 0: 06 08");
-    show_row(b"1 0 18 1 11: 06 08");
-    show_row(b"1 0 18 1 12: 06 08");
-    show_row(b"0 0 18 1 17: 0F 20 06 08");
-    show_row(b"0 0 18 1 23: 0F 20 06 08");
+fn lent(rt: &impl Print) -> io::Result<()> {
+    show_row(rt, b"1 0 18 1 0: 06 08")?;
+    show_row(rt, b"1 0 18 1 11: 06 08")?;
+    show_row(rt, b"1 0 18 1 12: 06 08")?;
+    show_row(rt, b"0 0 18 1 17: 0F 20 06 08")?;
+    show_row(rt, b"0 0 18 1 23: 0F 20 06 08")
 }
 
-fn main() {
-    accepted();
-    refused();
-    lent();
+fn main(rt: HostRuntime) -> io::Result<()> {
+    accepted(&rt)?;
+    refused(&rt)?;
+    lent(&rt)
 }

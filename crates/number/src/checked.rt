@@ -11,7 +11,8 @@ pub enum Checked {
     Bad { refusal: u32 },
 }
 
-// The number at the offset `at`. Most numbers have one byte, which is looked at first.
+// The number at the offset `at`. Most numbers have one byte, which is looked at first: a shortcut that is document 02's request 3, which lands in an issue
+// of its own.
 pub fn checked_at(s: &[u8], at: usize) -> Checked
     ensures { result ≡ checked_at s.now at }
 {

@@ -1,4 +1,4 @@
--- An array behind its type, as definitions. Internal: an auditor goes by the judge, and that they mean the same is `Array-shape` (proofs/Shapes.antt).
+-- An array behind its type, as definitions. Internal: an auditor goes by the judge, and that they mean the same is `array_shape` (proofs/Shapes.antt).
 use Rattle.std.specs.Prelude.{ℕ, ◌+◌, ◌≤◌, ◌≡◌, cond, List, ◌∷◌, ◌++◌, length, eqb}
 use Rattle.grammar.specs.Limits.{max_nodes, max_rank}
 use Rattle.grammar.specs.Table.{SIZE}

@@ -95,19 +95,13 @@ fn instance_at(src: &[u8], counts: Counts, kind: u32, at: usize) -> Open
         };
     }
     let which = src[from];
-    if which < 0x11 {
-        return Open::Shut {
+    match which {
+        0x11..=0x12 => instance_of(src, counts, kind, which, at),
+        _ => Open::Shut {
             refusal: 5,
             at: from,
-        };
+        },
     }
-    if 0x12 < which {
-        return Open::Shut {
-            refusal: 5,
-            at: from,
-        };
-    }
-    instance_of(src, counts, kind, which, at)
 }
 
 // What follows the 11 or 12 of a GENERICINST.

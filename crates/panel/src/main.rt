@@ -3,8 +3,12 @@
 
 ghost use Rattle.std.specs.Prelude.{◌≡◌, length};
 
-use libc::{STDERR_FILENO, STDIN_FILENO, STDOUT_FILENO};
 use sheet::MAX_SHEET;
+use std::env::FillError;
+use std::io::{ErrorKind, Read};
+use std::process::ExitCode;
+use std::rt::{Env, Files};
+use std::{fmt, fs, io};
 
 // One byte more than a sheet may have, so that a longer one is told from one that just fits.
 const SHEET: usize = MAX_SHEET + 1;
@@ -12,29 +16,36 @@ const SHEET: usize = MAX_SHEET + 1;
 // More than any sheet prints: eleven bytes for an acknowledgement of one byte are the most.
 const PRINT: usize = 1048576;
 
-// How many bytes were read, or that a read failed.
-#[derive(Clone, Copy)]
-enum Input {
-    Bytes(usize),
-    Failed,
+// As many bytes as the name of a file may have.
+const NAME: usize = 4096;
+
+// Why a sheet was not run: what could not be read or written, with the reason, or a print that is longer than its room.
+#[derive(Drop)]
+enum Failure<'a> {
+    Io { name: &'a str, reason: io::Error },
+    TooLong,
 }
 
-// Reads until the buffer is full or the input ends.
-fn fill(fd: i32, buf: &mut [u8]) -> Input {
+impl fmt::Display for Failure<'_> {
+    fn fmt<W: fmt::Write>(&self, f: &mut fmt::Formatter<W>) -> fmt::Result {
+        match self {
+            Failure::Io { name, reason } => write!(f, "{name}: {reason}"),
+            Failure::TooLong => write!(f, "the print is too long"),
+        }
+    }
+}
+
+// Reads until the buffer is full or the input ends, and gives how many bytes were read.
+fn fill(input: &mut impl Read, buf: &mut [u8]) -> io::Result<usize> {
     let mut done = 0;
     while done < buf.len() {
-        let rest = &mut buf[done..];
-        let got = libc::read(fd, rest);
-        if got < 0 {
-            return Input::Failed;
-        }
-        let n = io::count(got, rest);
+        let n = input.read(&mut buf[done..])?;
         if n == 0 {
-            return Input::Bytes(done);
+            break;
         }
         done += n;
     }
-    Input::Bytes(done)
+    Ok(done)
 }
 
 // Room for a print; that its length is known is all that is said of it.
@@ -45,55 +56,81 @@ fn blank_print() -> [u8; PRINT]
 }
 
 // Writes the first n bytes of the room for a print.
-fn write_front(out: &[u8], n: usize) {
+fn write_front(rt: &impl Print, out: &[u8], n: usize) -> Result<(), Failure<'static>> {
     if out.len() < n {
-        io::write_all(STDERR_FILENO, b"the print is too long\n");
-        return;
+        return Err(Failure::TooLong);
     }
-    if !io::write_all(STDOUT_FILENO, &out[..n]) {
-        os::fail(b"standard output");
-    }
+    rt.write_all(&out[..n]).map_err(|reason| Failure::Io {
+        name: "standard output",
+        reason,
+    })
 }
 
 // Runs a sheet and writes its print.
-fn run(bytes: &[u8]) {
+fn run(rt: &impl Print, bytes: &[u8]) -> Result<(), Failure<'static>> {
     let mut out = blank_print();
     let answer = sheet::run_sheet(bytes, &mut out);
-    write_front(&out, answer.place);
+    write_front(rt, &out, answer.place)
 }
 
 // Runs the first n bytes that were read.
-fn run_front(bytes: &[u8], n: usize) {
+fn run_front(rt: &impl Print, bytes: &[u8], n: usize) -> Result<(), Failure<'static>> {
     if n <= bytes.len() {
-        run(&bytes[..n]);
+        run(rt, &bytes[..n])?;
     }
+    Ok(())
 }
 
-// Runs the sheet that a descriptor gives.
-fn read_and_run(fd: i32, name: &[u8]) {
+// Runs the sheet that an input of this name gives.
+fn read_and_run<'a>(
+    rt: &impl Print,
+    input: &mut impl Read,
+    name: &'a str,
+) -> Result<(), Failure<'a>> {
     let mut bytes = [0u8; SHEET];
-    match fill(fd, &mut bytes) {
-        Input::Bytes(n) => run_front(&bytes, n),
-        Input::Failed => os::fail(name),
+    match fill(input, &mut bytes) {
+        Ok(n) => run_front(rt, &bytes, n),
+        Err(reason) => Err(Failure::Io { name, reason }),
     }
 }
 
-fn main() {
-    if os::arg_count() < 2 {
-        read_and_run(STDIN_FILENO, b"standard input");
-        return;
+// Runs the sheet in a file.
+fn run_file<'a>(rt: &(impl Files + Print), name: &'a str) -> Result<(), Failure<'a>> {
+    match fs::open(rt, name) {
+        Ok(mut file) => read_and_run(rt, &mut file, name),
+        Err(reason) => Err(Failure::Io { name, reason }),
     }
-    let mut path = io::buffer();
-    let length = os::arg(1, &mut path);
-    if os::errno() != 0 {
-        os::fail(b"the file's name");
-        return;
+}
+
+fn bad_name(reason: &str) -> Failure<'static> {
+    Failure::Io {
+        name: "the file's name",
+        reason: io::Error::new(ErrorKind::InvalidFilename, reason),
     }
-    let fd = os::open_read(&path[..length]);
-    if fd < 0 {
-        os::fail(&path[..length]);
-        return;
+}
+
+// Runs the sheet in the file that the first argument names, or on standard input where there is none. The name is put into `room`.
+fn run_argument<'a>(
+    rt: &(impl Env + Files + Input + Print),
+    room: &'a mut [u8],
+) -> Result<(), Failure<'a>> {
+    match rt.arg(1, room) {
+        Ok(n) => match str::from_utf8(&room[..n]) {
+            Ok(name) => run_file(rt, name),
+            Err(_) => Err(bad_name("not UTF-8")),
+        },
+        Err(FillError::TooLong) => Err(bad_name("too long")),
+        Err(FillError::NotPresent) => read_and_run(rt, &mut rt.reader(), "standard input"),
     }
-    read_and_run(fd, &path[..length]);
-    libc::close(fd);
+}
+
+fn main(rt: HostRuntime) -> ExitCode {
+    let mut room = [0u8; NAME];
+    match run_argument(&rt, &mut room) {
+        Ok(()) => ExitCode::SUCCESS,
+        Err(failure) => {
+            let _ = eprintln!(rt; "{failure}");
+            ExitCode::FAILURE
+        }
+    }
 }

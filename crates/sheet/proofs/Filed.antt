@@ -1,4 +1,4 @@
--- Laws of `filedAll`, one blob at a time, and of `register_of`.
+-- Laws of `file_all`, one blob at a time, and of `register_of`.
 -- Assumes nothing.
 use Prim.Native.Nat.{ℕ, ◌+◌, ◌-◌, ◌≤◌}
 use mathlib.Core.Path.{◌≡◌, sym, ap, ◌∙◌, subst}

@@ -1,4 +1,4 @@
--- Laws of `rows_by`: the loop of `rows_by`.
+-- Laws of the definition `rows_by`: the loop of the function.
 -- Assumes nothing.
 use Prim.Native.Nat.{ℕ, suc, ◌+◌, ◌-◌, ◌<◌}
 use mathlib.Core.Path.{◌≡◌, sym, subst}

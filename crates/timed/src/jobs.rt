@@ -18,7 +18,7 @@ fn sum_of(s: &[u8]) -> u64 {
     while at < s.len() {
         match number::checked::checked_at(s, at) {
             Checked::Good { value, next } => {
-                sum = std::num::wrapping_add_u64(sum, value as u64);
+                sum = sum.wrapping_add(value as u64);
                 at = next;
             }
             Checked::Bad { refusal: _ } => return sum,

@@ -8,6 +8,7 @@ mod jobs;
 use cases::print;
 use graphs::Graph;
 use register::MAX_SIZE;
+use std::{env, io};
 
 // How the rows name each other, by a letter.
 fn graph_of(letter: u8) -> Graph {
@@ -28,25 +29,29 @@ fn run(job: u8, graph: Graph, rows: u32, rounds: u32) -> u64 {
     }
 }
 
-fn main() {
-    if os::arg_count() < 2 {
-        print::text(
+// The first byte of a word, 0 where there is none.
+fn letter(word: Option<String>) -> u8 {
+    match word {
+        Some(word) => word.as_bytes().first().copied().unwrap_or(0),
+        None => 0,
+    }
+}
+
+fn main(rt: HostRuntime) -> io::Result<()> {
+    let mut words = env::args(&rt)?.skip(1);
+    let Some(job) = words.next() else {
+        return print::text(
+            &rt,
             b"usage: timed numbers | asks GRAPH [small] | files GRAPH [small]; GRAPH: cycle, line, random\n",
         );
-        return;
-    }
-    let mut job = [0u8; 8];
-    let mut graph = [0u8; 8];
-    let mut size = [0u8; 8];
-    os::arg(1, &mut job);
-    os::arg(2, &mut graph);
-    os::arg(3, &mut size);
-    let graph = graph_of(graph[0]);
-    let sum = if size[0] == b's' {
-        run(job[0], graph, 64, 1000)
-    } else {
-        run(job[0], graph, MAX_SIZE as u32, 1)
     };
-    print::number(b"", sum);
-    print::text(b"\n");
+    let job = letter(Some(job));
+    let graph = graph_of(letter(words.next()));
+    let sum = if letter(words.next()) == b's' {
+        run(job, graph, 64, 1000)
+    } else {
+        run(job, graph, MAX_SIZE as u32, 1)
+    };
+    print::number(&rt, b"", sum)?;
+    print::text(&rt, b"\n")
 }

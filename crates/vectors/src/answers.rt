@@ -2,6 +2,7 @@
 use cases::rows::{LONGEST, row_at};
 use cases::{KEPT, UNTOUCHED, print};
 use number::token::Counts;
+use std::io;
 
 // 1,025 records and a tail of five.
 const ROOM: usize = 6155;
@@ -9,12 +10,10 @@ const ROOM: usize = 6155;
 // How many numbers of the table are no longer as they were.
 fn changed(table: &[u32]) -> u64 {
     let mut n: u64 = 0;
-    let mut i = 0;
-    while i < table.len() {
-        if table[i] != UNTOUCHED {
+    for value in table {
+        if *value != UNTOUCHED {
             n = n % 0x10000 + 1;
         }
-        i += 1;
     }
     n
 }
@@ -26,94 +25,108 @@ fn mixed(sum: u64, n: u32) -> u64 {
 // A sum over all numbers of the table that goes by their order.
 fn checksum(table: &[u32]) -> u64 {
     let mut sum: u64 = 0;
-    let mut i = 0;
-    while i < table.len() {
-        sum = mixed(sum, table[i]);
-        i += 1;
+    for value in table {
+        sum = mixed(sum, *value);
     }
     sum
 }
 
 // The first twelve records at most, six numbers to a line.
-fn records(table: &[u32], nodes: usize) {
-    let mut i = 0;
-    while i < table.len() {
-        if 72 <= i {
-            return;
+fn records(rt: &impl Print, table: &[u32], nodes: usize) -> io::Result<()> {
+    for (i, value) in table.iter().enumerate() {
+        if 72 <= i || nodes <= i / 6 {
+            break;
         }
-        if nodes <= i / 6 {
-            return;
-        }
-        print::hex(b" ", table[i]);
+        print::hex(rt, b" ", *value)?;
         if i % 6 == 5 {
-            print::text(b"\n");
+            print::text(rt, b"\n")?;
         }
-        i += 1;
     }
+    Ok(())
 }
 
 // Whether `out` begins with the blob and is untouched behind it.
 fn holds(out: &[u8], blob: &[u8]) -> bool {
-    let mut i = 0;
-    while i < out.len() {
+    for (i, byte) in out.iter().enumerate() {
         let want = if i < blob.len() { blob[i] } else { KEPT };
-        if out[i] != want {
+        if *byte != want {
             return false;
         }
-        i += 1;
     }
     blob.len() <= out.len()
 }
 
 // A table written, and whether the blob comes back.
-fn write_back(table: &[u32], kind: u32, counts: Counts, blob: &[u8]) {
+fn write_back(
+    rt: &impl Print,
+    table: &[u32],
+    kind: u32,
+    counts: Counts,
+    blob: &[u8],
+) -> io::Result<()> {
     let mut out = [KEPT; 4100];
     let answer = writer::write(kind, counts, table, &mut out);
-    print::outcome(b" written ", answer.code, answer.place);
+    print::outcome(rt, b" written ", answer.code, answer.place)?;
     if holds(&out, blob) {
-        print::text(b", the blob\n");
+        print::text(rt, b", the blob\n")
     } else {
-        print::text(b", another\n");
+        print::text(rt, b", another\n")
     }
 }
 
 // The records that were read, written again.
-fn back(table: &[u32], nodes: usize, kind: u32, counts: Counts, blob: &[u8]) {
+fn back(
+    rt: &impl Print,
+    table: &[u32],
+    nodes: usize,
+    kind: u32,
+    counts: Counts,
+    blob: &[u8],
+) -> io::Result<()> {
     if nodes <= 1025 {
         let used = 6 * nodes;
         if used <= table.len() {
-            write_back(&table[..used], kind, counts, blob);
+            write_back(rt, &table[..used], kind, counts, blob)?;
         }
     }
+    Ok(())
 }
 
 // A blob judged, and read into the table that is lent.
-fn run(table: &mut [u32], kind: u32, counts: Counts, blob: &[u8]) {
-    print::number(b"kind ", kind as u64);
-    print::number(b", ", blob.len() as u64);
+fn run(
+    rt: &impl Print,
+    table: &mut [u32],
+    kind: u32,
+    counts: Counts,
+    blob: &[u8],
+) -> io::Result<()> {
+    print::number(rt, b"kind ", kind as u64)?;
+    print::number(rt, b", ", blob.len() as u64)?;
     let judged = reader::judge(kind, counts, blob);
-    print::outcome(b" bytes: judged ", judged.code, judged.place);
+    print::outcome(rt, b" bytes: judged ", judged.code, judged.place)?;
     let answer = reader::read(kind, counts, blob, table);
-    print::outcome(b", read ", answer.code, answer.place);
-    print::number(b", numbers written ", changed(table));
-    print::number(b", sum ", checksum(table));
-    print::text(b"\n");
+    print::outcome(rt, b", read ", answer.code, answer.place)?;
+    print::number(rt, b", numbers written ", changed(table))?;
+    print::number(rt, b", sum ", checksum(table))?;
+    print::text(rt, b"\n")?;
     if answer.code == 0 {
-        records(table, answer.place);
-        back(table, answer.place, kind, counts, blob);
+        records(rt, table, answer.place)?;
+        back(rt, table, answer.place, kind, counts, blob)?;
     }
+    Ok(())
 }
 
 // With this many numbers lent.
-fn show(kind: u32, counts: Counts, blob: &[u8], lent: usize) {
+fn show(rt: &impl Print, kind: u32, counts: Counts, blob: &[u8], lent: usize) -> io::Result<()> {
     let mut table = [UNTOUCHED; ROOM];
     if lent <= ROOM {
-        run(&mut table[..lent], kind, counts, blob);
+        run(rt, &mut table[..lent], kind, counts, blob)?;
     }
+    Ok(())
 }
 
 // Runs the case of each line of a text.
-pub fn show_rows(text: &[u8]) {
+pub fn show_rows(rt: &impl Print, text: &[u8]) -> io::Result<()> {
     let mut blob = [0u8; LONGEST];
     let mut at = 0;
     while at < text.len() {
@@ -121,9 +134,10 @@ pub fn show_rows(text: &[u8]) {
         let length = row.length;
         if row.case {
             if length <= LONGEST {
-                show(row.kind, row.counts, &blob[..length], row.lent);
+                show(rt, row.kind, row.counts, &blob[..length], row.lent)?;
             }
         }
         at = row.next;
     }
+    Ok(())
 }

@@ -5,7 +5,9 @@ mod answers;
 mod numbers;
 mod reads;
 
-fn main() {
-    numbers::run();
-    reads::run();
+use std::io;
+
+fn main(rt: HostRuntime) -> io::Result<()> {
+    numbers::run(&rt)?;
+    reads::run(&rt)
 }

@@ -1,9 +1,11 @@
 // Document 01's bench and a dozen refusals of each number from 1 to 13, each read, and its answer and table printed. The rows are as cases/src/rows.rt says.
 use crate::answers::show_rows;
+use std::io;
 
 // Document 01's bench.
-fn worked_blobs() {
+fn worked_blobs(rt: &impl Print) -> io::Result<()> {
     show_rows(
+        rt,
         b"
 # The rows marked with a star.
 1: 06 08
@@ -36,12 +38,13 @@ fn worked_blobs() {
 2: 07 84 00 08*1024
 4: 00 83 FE 01 08*1022
 ",
-    );
+    )
 }
 
 // Every production of the grammar.
-fn accepted() {
+fn accepted(rt: &impl Print) -> io::Result<()> {
     show_rows(
+        rt,
         b"
 # Every production of a type.
 0: 01
@@ -73,12 +76,13 @@ fn accepted() {
 4: 70 01 00 20 06 10 1D 08
 4: 65 00 16
 ",
-    );
+    )
 }
 
 // A dozen refusals of each number from 1 to 13.
-fn refused() {
+fn refused(rt: &impl Print) -> io::Result<()> {
     show_rows(
+        rt,
         b"
 # 1: a blob over 4,096 bytes.
 0: 1D*4097
@@ -283,11 +287,11 @@ fn refused() {
 1 0 18 1 0: 06 08 08
 1 0 18 1 3: 06
 ",
-    );
+    )
 }
 
-pub fn run() {
-    worked_blobs();
-    accepted();
-    refused();
+pub fn run(rt: &impl Print) -> io::Result<()> {
+    worked_blobs(rt)?;
+    accepted(rt)?;
+    refused(rt)
 }
