@@ -9,7 +9,7 @@ pub sheet-init : goal.sheet-init
 sheet-init c = (search rules, refl)
 
 pub returns-then-section-eq-SECTIONS : goal.returns-then-section-eq-SECTIONS
-returns-then-section-eq-SECTIONS c = all_read _ _ _ _ c.if-section-eq-SECTIONS.true c.if-at-s.false c.sheet.invariant.1
+returns-then-section-eq-SECTIONS c = all_read _ _ _ _ c.if-section-eq-SECTIONS.true (omega arith) c.sheet.invariant.1
 
 pub loop-left-init : goal.loop-left-init
 loop-left-init c =
