@@ -1,12 +1,19 @@
 -- What every call answers, and document 01, "The register": what its calls answer, by the number of rows, the numbers lent and what is kept of a row.
-use Rattle.std.specs.Prelude.{ℕ, ◌*◌, cond, ◌||◌, ltb, eqb}
+use Rattle.std.specs.Prelude.{ℕ, ◌*◌, cond, ◌||◌, ltb, eqb, Result, Ok, Err}
 use Rattle.answer.specs.Size.{max_size, words}
+use Rattle.answer.specs.Refusal.{number_of}
+use Rattle.answer.specs.declared.refusal.Fault.{Fault}
 use Rattle.answer.specs.declared.Answer.{Answer}
 use Rattle.answer.specs.declared.Asked.{Asked}
 
 -- a number and its place
 abbrev pub answer : (code place : ℕ) → Answer
 answer code place = record { code = code; place = place }
+
+-- what a call that reads or writes answers: 0 "done" with the nodes or the bytes written, or a refusal's number and place
+abbrev pub panel_of : Result ℕ Fault → Answer
+panel_of (Ok place) = answer 0 place
+panel_of (Err fault) = answer (number_of fault.refusal) fault.place
 
 -- 16 "row not in 1..rows", else 0
 unfoldable pub row_code : (rows row : ℕ) → ℕ

@@ -1,3 +1,4 @@
 pub mod Size
+pub mod Refusal
 pub mod Answers
 pub mod Written

@@ -3,7 +3,11 @@
 #![tactic(auto)]
 
 ghost use Rattle.std.specs.Prelude.{◌≡◌};
-ghost use Rattle.answer.specs.Answers.{row_code, admit_code, ack_code, asked_of};
+ghost use Rattle.answer.specs.Answers.{row_code, admit_code, ack_code, asked_of, panel_of};
+
+use refusal::Fault;
+
+pub mod refusal;
 
 // The most rows.
 pub const MAX_SIZE: usize = 512;
@@ -12,10 +16,24 @@ pub const MAX_SIZE: usize = 512;
 pub const WORDS: usize = 16;
 
 // A number, 0 for done, with its place: how many nodes or bytes there are, or where a refusal stands.
-#[derive(Clone, Copy)]
+#[derive(Clone, Copy, Debug, PartialEq, Eq)]
 pub struct Answer {
     pub code: u32,
     pub place: usize,
+}
+
+impl From<Result<usize, Fault>> for Answer {
+    ghost from_gives = { λ told answer. answer ≡ panel_of told };
+
+    fn from(told: Result<usize, Fault>) -> Answer {
+        match told {
+            Ok(place) => Answer { code: 0, place },
+            Err(fault) => Answer {
+                code: fault.refusal.into(),
+                place: fault.place,
+            },
+        }
+    }
 }
 
 #[derive(Clone, Copy)]
