@@ -8,10 +8,11 @@ use lib.ListN.{length, get_or, take, length-take}
 use lib.Seq.{length-take-le, get_or-take}
 use native.Mathlib.Omega.{arith}
 use borrow.Author.Tests.{le-leb}
-use Rattle.number.specs.Number.{number_at, whole, value2, value4, width}
+use Rattle.std.specs.Prelude.{Err}
+use Rattle.number.specs.Number.{found, number_at, whole, value2, value4, width}
 use Rattle.number.specs.Checked.{checked, checked_at}
-use Rattle.number.specs.declared.Number.TheVariants.{Cut}
-use Rattle.number.specs.declared.checked.Checked.TheVariants.{Good, Bad}
+use Rattle.number.specs.declared.NumberError.TheVariants.{Cut}
+use Rattle.answer.specs.declared.refusal.Refusal.TheVariants.{BytesEnd}
 use Rattle.number.proofs.Cases.{width-1, width-2, width-4, width-bad, at_end, one_byte, two_byte, four_byte, bad-byte, cut}
 use Rattle.number.proofs.Laws.{split, next_width}
 use Rattle.number.proofs.Checks.{checked-good}
@@ -79,19 +80,19 @@ module _ (s t : List ℕ) (at : ℕ) where
       ∙ whole-alike 4 0x4000 (value4 s at) (value4 t at) h l (rw (e₀, e₁, e₂, e₃))
       ∙ sym (four_byte s at (omega arith) a b)
 
-  short : number_at s at ≡ Cut → checked_at s at ≡ Bad 2
+  short : number_at s at ≡ Err Cut → checked_at s at ≡ Err BytesEnd
   unfolding checked_at checked
   short e = rw e
 
   -- bytes that end too early are 2; else what is read is the number's own
-  pub checked-own : (checked_at s at ≡ Bad 2) ⊎ Own
+  pub checked-own : (checked_at s at ≡ Err BytesEnd) ⊎ Own
   checked-own = ⊎_elim there (λ h. inl (short (at_end s at h))) (split at (length s))
     where
       -- a form of k bytes
-      long : (k least v : ℕ) → number_at s at ≡ whole s at k least v → (at + k ≤ length s → Own) → (checked_at s at ≡ Bad 2) ⊎ Own
+      long : (k least v : ℕ) → number_at s at ≡ whole s at k least v → (at + k ≤ length s → Own) → (checked_at s at ≡ Err BytesEnd) ⊎ Own
       long k least v e f = ⊎_elim (λ c. inl (short (e ∙ cut s at k least v c))) (λ l. inr (f l)) (split (length s) (at + k))
 
-      there : at < length s → (checked_at s at ≡ Bad 2) ⊎ Own
+      there : at < length s → (checked_at s at ≡ Err BytesEnd) ⊎ Own
       there h =
           ⊎_elim (λ b. inr (own 1 (width-1 _ b) (omega arith) (one_alike h b)))
           (λ a. ⊎_elim (λ b. long 2 0x80 _ (two_byte s at h a b) (λ l. own 2 (width-2 _ a b) l (two_alike l a b)))
@@ -100,6 +101,6 @@ module _ (s t : List ℕ) (at : ℕ) where
           (split (get_or s at 0) 0xC0)) (split (get_or s at 0) 0x80)
 
 -- a number that passed ends where its first byte says
-pub checked-width : (s : List ℕ) (at v next : ℕ) → checked_at s at ≡ Good v next → next ≡ at + width (get_or s at 0)
+pub checked-width : (s : List ℕ) (at v next : ℕ) → checked_at s at ≡ found v next → next ≡ at + width (get_or s at 0)
 unfolding checked_at
 checked-width s at v next e = next_width s at v next (checked-good (number_at s at) v next e)

@@ -11,11 +11,12 @@ use lib.ListN.{length, take, drop, length-drop}
 use lib.Seq.{drop-cons, length-take-le}
 use lib.Dec.{leb}
 use borrow.Author.Tests.{le-leb, lt-leb, leb-true}
-use Rattle.number.specs.Number.{Bytes, limit, encode, number_at}
-use Rattle.number.specs.Checked.{checked, checked_at}
+use Rattle.std.specs.Prelude.{Ok, Err}
+use Rattle.answer.specs.declared.refusal.Refusal.{Refusal}
+use Rattle.number.specs.Number.{Bytes, limit, encode, number, found, number_at}
+use Rattle.number.specs.Checked.{Checked, checked, checked_at}
 use Rattle.number.specs.Blob.{blob_of, blob_at}
-use Rattle.number.specs.declared.checked.Checked.{Checked}
-use Rattle.number.specs.declared.checked.Checked.TheVariants.{Good, Bad}
+use Rattle.answer.specs.declared.refusal.Refusal.TheVariants.{BytesEnd}
 use Rattle.number.proofs.Laws.{decoded, encoded, onward}
 use Rattle.number.proofs.Checks.{checked-good, checked-onward}
 use Rattle.number.proofs.Stands.{Stands, nothing, byte, join, split, stands_length}
@@ -28,14 +29,14 @@ pub record Got (small : Type 0) (s : List ℕ) (at : ℕ) (bs : List ℕ) (next 
   pub stands : Stands s at bs next
   pub inside : next ≤ length s
 
-pub got : (s : List ℕ) → Bytes s → (at v next : ℕ) → checked_at s at ≡ Good v next → Got (v < limit) s at (encode v) next
+pub got : (s : List ℕ) → Bytes s → (at v next : ℕ) → checked_at s at ≡ found v next → Got (v < limit) s at (encode v) next
 unfolding checked_at
 got s bytes at v next e =
     let n = checked-good (number_at s at) v next e in
     let d = decoded s at v next bytes n in
     record { fits = d.small; stands = d.stands; inside = (onward s at v next n).1 }
 
-pub reads : (s : List ℕ) (at v z : ℕ) → v < limit → Stands s at (encode v) z → checked_at s at ≡ Good v z
+pub reads : (s : List ℕ) (at v z : ℕ) → v < limit → Stands s at (encode v) z → checked_at s at ≡ found v z
 unfolding checked_at checked
 reads s at v z h k = rw (encoded s at v z h k) refl
 
@@ -63,36 +64,38 @@ stands_slice s (suc v) from h =
 -- ---- the ways out of `blob_at`
 
 module _ (s : List ℕ) (at : ℕ) {r : Checked} (er : r ≡ checked_at s at) where
-  module _ {v next : ℕ} (e : r ≡ Good v next) where
-    pub blob-cut : length s < next + v → Bad 2 ≡ blob_at s at
+  module _ {v next : ℕ} (e : r ≡ found v next) where
+    pub blob-cut : length s < next + v → Err BytesEnd ≡ blob_at s at
     unfolding blob_at blob_of
     blob-cut h = rw (sym er ∙ e) (rw (lt-leb (next + v) (length s) h))
 
-    pub blob-there : next + v ≤ length s → Good v (next + v) ≡ blob_at s at
+    pub blob-there : next + v ≤ length s → found v (next + v) ≡ blob_at s at
     unfolding blob_at blob_of
     blob-there h = rw (sym er ∙ e) (rw (le-leb (next + v) (length s) h))
 
-  pub blob-bad : {refusal : ℕ} → r ≡ Bad refusal → Bad refusal ≡ blob_at s at
+  pub blob-bad : {refusal : Refusal} → r ≡ Err refusal → Err refusal ≡ blob_at s at
   unfolding blob_at blob_of
   blob-bad e = rw (sym er ∙ e)
 
 -- ---- what it says of a blob that it is read
 
-from_good : (n v next : ℕ) (c : Checked) → blob_of n c ≡ Good v next → (from : ℕ) × (c ≡ Good v from) × (next ≡ from + v) × (from + v ≤ n)
+from_good : (n v next : ℕ) (c : Checked) → blob_of n c ≡ found v next → (from : ℕ) × (c ≡ found v from) × (next ≡ from + v) × (from + v ≤ n)
 unfolding blob_of
-from_good n v next (Good x z) e = go (leb (z + x) n) refl e
+from_good n v next (Ok c) e = go (leb (c.next + c.value) n) refl e
   where
-    go : (b : Bool) → leb (z + x) n ≡ b → cond b (Good x (z + x)) (Bad 2) ≡ Good v next → (from : ℕ) × (Good x z ≡ Good v from) × (next ≡ from + v) × (from + v ≤ n)
+    go : (b : Bool) → leb (c.next + c.value) n ≡ b → cond b (found c.value (c.next + c.value)) (Err BytesEnd) ≡ found v next
+        → (from : ℕ) × (found {E = Refusal} c.value c.next ≡ found v from) × (next ≡ from + v) × (from + v ≤ n)
     go true h e =
-        let a : x ≡ v = cc in
-        let b : z + x ≡ next = cc in
-        let u : z + x ≤ n = leb-true (z + x) n h in
-        (z, ap (λ y. Good y z) a, omega (arith, a, b), omega (arith, a, u))
-    go false h e = let z : ◌≡◌ {A = ℕ} 0 1 = cc in absurd (omega arith)
-from_good n v next (Bad refusal) e = let z : ◌≡◌ {A = ℕ} 0 1 = cc in absurd (omega arith)
+        let same : number c.value (c.next + c.value) ≡ number v next = cc in
+        let a : c.value ≡ v = ap (λ m. m.value) same in
+        let b : c.next + c.value ≡ next = ap (λ m. m.next) same in
+        let u : c.next + c.value ≤ n = leb-true (c.next + c.value) n h in
+        (c.next, ap (λ y. found y c.next) a, omega (arith, a, b), omega (arith, a, u))
+    go false h e = absurd cc
+from_good n v next (Err refusal) e = absurd cc
 
 -- its bytes lie within the list
-pub blob-within : (s : List ℕ) (at : ℕ) {r : Checked} → r ≡ blob_at s at → {v next : ℕ} → r ≡ Good v next → (v ≤ next) × (next ≤ length s)
+pub blob-within : (s : List ℕ) (at : ℕ) {r : Checked} → r ≡ blob_at s at → {v next : ℕ} → r ≡ found v next → (v ≤ next) × (next ≤ length s)
 unfolding blob_at
 blob-within s at er {v} {next} e =
     let b = from_good (length s) v next (checked_at s at) (sym er ∙ e) in
@@ -103,7 +106,7 @@ blob-within s at er {v} {next} e =
 abbrev pub BlobGot : (s : List ℕ) (at next : ℕ) (blob : List ℕ) → Type 0
 BlobGot s at next blob = Got (length blob < limit) s at (encode (length blob) ++ blob) next
 
-pub blob-got : (s : List ℕ) → Bytes s → (at v next : ℕ) → blob_at s at ≡ Good v next → BlobGot s at next (take v (drop (next - v) s))
+pub blob-got : (s : List ℕ) → Bytes s → (at v next : ℕ) → blob_at s at ≡ found v next → BlobGot s at next (take v (drop (next - v) s))
 unfolding blob_at
 blob-got s bytes at v next e =
     let b = from_good (length s) v next (checked_at s at) e in
@@ -117,7 +120,7 @@ blob-got s bytes at v next e =
     (record { fits = omega (arith, size, g.fits); stands = join here there; inside = omega (arith, b.2, b.3) })
 
 pub blob-reads : (s : List ℕ) (at : ℕ) (blob : List ℕ) (next : ℕ) → length blob < limit → Stands s at (encode (length blob) ++ blob) next
-    → (blob_at s at ≡ Good (length blob) next) × (take (length blob) (drop (next - length blob) s) ≡ blob)
+    → (blob_at s at ≡ found (length blob) next) × (take (length blob) (drop (next - length blob) s) ≡ blob)
 blob-reads s at blob next h k =
     let parts = split (encode (length blob)) blob k in
     let from = parts.0 in
@@ -125,6 +128,6 @@ blob-reads s at blob next h k =
     let z : next ≡ from + length blob = stands_length parts.2 in
     let u : next ≤ length s = stands_inside s blob from next (checked-onward s at (length blob) from e).1 parts.2 in
     let y : next - length blob ≡ from = omega (arith, z) in (
-      sym (blob-there s at refl e (omega (arith, u, z))) ∙ ap (Good (length blob)) (sym z),
+      sym (blob-there s at refl e (omega (arith, u, z))) ∙ ap (found (length blob)) (sym z),
       ap (λ j. take (length blob) (drop j s)) y ∙ slice_is s blob from next parts.2,
     )

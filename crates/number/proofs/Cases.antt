@@ -6,8 +6,9 @@ use mathlib.Core.List.{List}
 use lib.ListN.{length, get_or}
 use native.Mathlib.Omega.{arith}
 use borrow.Author.Tests.{le-leb, lt-leb, lt-ltb, le-ltb}
-use Rattle.number.specs.Number.{number_at, whole, value2, value4, width}
-use Rattle.number.specs.declared.Number.TheVariants.{Value, Cut, BadByte, TooLong}
+use Rattle.std.specs.Prelude.{Err}
+use Rattle.number.specs.Number.{found, number_at, whole, value2, value4, width}
+use Rattle.number.specs.declared.NumberError.TheVariants.{Cut, BadByte, TooLong}
 
 module _ (b : ℕ) where
   pub width-1 : b < 0x80 → width b ≡ 1
@@ -32,11 +33,11 @@ module _ (b : ℕ) where
       simp (le-ltb _ _ a', le-ltb _ _ a'', le-ltb _ _ a)
 
 module _ (s : List ℕ) (at : ℕ) where
-  pub at_end : length s ≤ at → number_at s at ≡ Cut
+  pub at_end : length s ≤ at → number_at s at ≡ Err Cut
   unfolding number_at
   at_end h = simp (le-leb _ _ h)
 
-  pub one_byte : at < length s → get_or s at 0 < 0x80 → number_at s at ≡ Value (get_or s at 0) (at + 1)
+  pub one_byte : at < length s → get_or s at 0 < 0x80 → number_at s at ≡ found (get_or s at 0) (at + 1)
   unfolding number_at
   one_byte h b = simp (lt-leb _ _ h, lt-ltb _ _ b)
 
@@ -50,7 +51,7 @@ module _ (s : List ℕ) (at : ℕ) where
       let a' : 0x80 ≤ get_or s at 0 = omega arith in
       simp (lt-leb _ _ h, le-ltb _ _ a', le-ltb _ _ a, lt-ltb _ _ b)
 
-  pub bad-byte : at < length s → 0xE0 ≤ get_or s at 0 → number_at s at ≡ BadByte
+  pub bad-byte : at < length s → 0xE0 ≤ get_or s at 0 → number_at s at ≡ Err BadByte
   unfolding number_at
   bad-byte h a =
       let a' : 0x80 ≤ get_or s at 0 = omega arith in
@@ -58,14 +59,14 @@ module _ (s : List ℕ) (at : ℕ) where
       simp (lt-leb _ _ h, le-ltb _ _ a', le-ltb _ _ a'', le-ltb _ _ a)
 
   module _ (k least v : ℕ) where
-    pub cut : length s < at + k → whole s at k least v ≡ Cut
+    pub cut : length s < at + k → whole s at k least v ≡ Err Cut
     unfolding whole
     cut h = simp (lt-leb _ _ h)
 
-    pub too_long : at + k ≤ length s → v < least → whole s at k least v ≡ TooLong
+    pub too_long : at + k ≤ length s → v < least → whole s at k least v ≡ Err TooLong
     unfolding whole
     too_long h l = simp (le-leb _ _ h, lt-leb _ _ l)
 
-    pub fit : at + k ≤ length s → least ≤ v → whole s at k least v ≡ Value v (at + k)
+    pub fit : at + k ≤ length s → least ≤ v → whole s at k least v ≡ found v (at + k)
     unfolding whole
     fit h l = simp (le-leb _ _ h, le-leb _ _ l)

@@ -7,7 +7,7 @@
 -- `Bytes s` says that s is a list of bytes, as every slice of bytes is (`slice_bytes`, number/proofs/Slices.antt).
 -- Assumes nothing.
 use Prim.Native.Nat.{ℕ, zero, suc, ◌+◌, ◌/◌, ◌%◌, ◌≤◌, ◌<◌}
-use mathlib.Core.Path.{◌≡◌, refl, ap₂, subst, ◌∙◌}
+use mathlib.Core.Path.{◌≡◌, refl, ap, ap₂, subst, ◌∙◌}
 use mathlib.Core.Bool.{Bool, true, false}
 use mathlib.Core.Logic.{◌⊎◌, inl, inr, ⊎_elim}
 use mathlib.Core.List.{List, [], ◌∷◌, ◌++◌}
@@ -15,8 +15,9 @@ use lib.ListN.{length, get_or}
 use lib.Dec.{ltb}
 use native.Mathlib.Omega.{arith}
 use borrow.Author.Tests.{ltb-true, ltb-false}
-use Rattle.number.specs.Number.{Bytes, limit, number_at, encode, whole, value2, value4, width}
-use Rattle.number.specs.declared.Number.TheVariants.{Value, Cut, BadByte, TooLong}
+use Rattle.std.specs.Prelude.{Err}
+use Rattle.number.specs.Number.{Bytes, limit, number, found, number_at, encode, whole, value2, value4, width}
+use Rattle.number.specs.declared.NumberError.TheVariants.{Cut, BadByte, TooLong}
 use Rattle.number.proofs.Cases.{width-1, width-2, width-4, at_end, one_byte, two_byte, four_byte, bad-byte, cut, too_long, fit}
 use Rattle.number.proofs.Encodes.{encode-1, encode-2, encode-4, encode-none}
 use Rattle.number.proofs.Stands.{Standing, Stands, within}
@@ -38,19 +39,19 @@ by_size P v one two four none =
 -- ---- an encoding is read back
 
 module _ (s : List ℕ) (at v z : ℕ) where
-  one-back : v < 0x80 → Standing s at (v ∷ []) z → number_at s at ≡ Value v z
-  one-back l h = one_byte s at h.0 (omega arith) ∙ ap₂ Value h.1 h.2
+  one-back : v < 0x80 → Standing s at (v ∷ []) z → number_at s at ≡ found v z
+  one-back l h = one_byte s at h.0 (omega arith) ∙ ap₂ found h.1 h.2
 
-  two_back : 0x80 ≤ v → v < 0x4000 → Standing s at ((0x80 + v / 0x100) ∷ v % 0x100 ∷ []) z → number_at s at ≡ Value v z
+  two_back : 0x80 ≤ v → v < 0x4000 → Standing s at ((0x80 + v / 0x100) ∷ v % 0x100 ∷ []) z → number_at s at ≡ found v z
   unfolding value2
   two_back l u h =
       let e : value2 s at ≡ v = omega arith in
       two_byte s at h.0 (omega arith) (omega arith)
       ∙ fit s at 2 0x80 (value2 s at) (omega arith) (omega arith)
-      ∙ ap₂ Value e (omega arith)
+      ∙ ap₂ found e (omega arith)
 
   four_back : 0x4000 ≤ v → v < limit
-      → Standing s at ((0xC0 + v / 0x1000000) ∷ v / 0x10000 % 0x100 ∷ v / 0x100 % 0x100 ∷ v % 0x100 ∷ []) z → number_at s at ≡ Value v z
+      → Standing s at ((0xC0 + v / 0x1000000) ∷ v / 0x10000 % 0x100 ∷ v / 0x100 % 0x100 ∷ v % 0x100 ∷ []) z → number_at s at ≡ found v z
   unfolding value4
   four_back l u h =
       let e₂ : at + 1 + 1 ≡ at + 2 = omega arith in
@@ -63,9 +64,9 @@ module _ (s : List ℕ) (at v z : ℕ) where
       let e : value4 s at ≡ v = omega arith in
       four_byte s at h.0 (omega arith) (omega arith)
       ∙ fit s at 4 0x4000 (value4 s at) (omega arith) (omega arith)
-      ∙ ap₂ Value e (omega arith)
+      ∙ ap₂ found e (omega arith)
 
-  pub encoded : v < limit → Stands s at (encode v) z → number_at s at ≡ Value v z
+  pub encoded : v < limit → Stands s at (encode v) z → number_at s at ≡ found v z
   encoded k h =
       by_size _ v
       (λ u. one-back u (rw (encode-1 v u) at h.here))
@@ -74,7 +75,7 @@ module _ (s : List ℕ) (at v z : ℕ) where
       (λ l. absurd (omega arith))
 
 -- between any bytes p and r
-pub reads_back : (p r : List ℕ) (v : ℕ) → v < limit → number_at (p ++ (encode v ++ r)) (length p) ≡ Value v (length p + length (encode v))
+pub reads_back : (p r : List ℕ) (v : ℕ) → v < limit → number_at (p ++ (encode v ++ r)) (length p) ≡ found v (length p + length (encode v))
 reads_back p r v k = encoded _ _ v _ k (within p (encode v) r)
 
 -- ---- what is read as a number is its encoding
@@ -117,22 +118,23 @@ module _ (s : List ℕ) (at : ℕ) (bytes : Bytes s) where
       }
 
 -- what holds of each form that gives a number holds of what is read
-module _ (s : List ℕ) (at v next : ℕ) (e : number_at s at ≡ Value v next) (P : ℕ → ℕ → Type 0) where
+module _ (s : List ℕ) (at v next : ℕ) (e : number_at s at ≡ found v next) (P : ℕ → ℕ → Type 0) where
   -- the case that gives a number is this one
-  this : (v' next' : ℕ) → number_at s at ≡ Value v' next' → P v' next' → P v next
+  this : (v' next' : ℕ) → number_at s at ≡ found v' next' → P v' next' → P v next
   this v' next' f d =
-      let ev : v' ≡ v = cc in
-      let en : next' ≡ next = cc in
+      let same : number v' next' ≡ number v next = cc in
+      let ev : v' ≡ v = ap (λ n. n.value) same in
+      let en : next' ≡ next = ap (λ n. n.next) same in
       subst (λ (n : ℕ). P v n) en (subst (λ (x : ℕ). P x next') ev d)
 
-  not_cut : number_at s at ≡ Cut → P v next
-  not_cut f = let z : ◌≡◌ {A = ℕ} 0 1 = cc in absurd (omega arith)
+  not_cut : number_at s at ≡ Err Cut → P v next
+  not_cut f = absurd cc
 
-  not_bad : number_at s at ≡ BadByte → P v next
-  not_bad f = let z : ◌≡◌ {A = ℕ} 0 1 = cc in absurd (omega arith)
+  not_bad : number_at s at ≡ Err BadByte → P v next
+  not_bad f = absurd cc
 
-  not_long : number_at s at ≡ TooLong → P v next
-  not_long f = let z : ◌≡◌ {A = ℕ} 0 1 = cc in absurd (omega arith)
+  not_long : number_at s at ≡ Err TooLong → P v next
+  not_long f = absurd cc
 
   -- a form of k bytes
   long_form : (k least v' : ℕ) → number_at s at ≡ whole s at k least v'
@@ -157,15 +159,15 @@ module _ (s : List ℕ) (at v next : ℕ) (e : number_at s at ≡ Value v next) 
           (λ a. not_bad (bad-byte s at h a)) (split (get_or s at 0) 0xE0))
           (split (get_or s at 0) 0xC0)) (split (get_or s at 0) 0x80)
 
-pub onward : (s : List ℕ) (at v next : ℕ) → number_at s at ≡ Value v next → (at < next) × (next ≤ length s)
+pub onward : (s : List ℕ) (at v next : ℕ) → number_at s at ≡ found v next → (at < next) × (next ≤ length s)
 onward s at v next e =
     by_form s at v next e (λ x n. (at < n) × (n ≤ length s)) (λ h b. omega arith) (λ h a b l. omega arith) (λ h a b l. omega arith)
 
-pub next_width : (s : List ℕ) (at v next : ℕ) → number_at s at ≡ Value v next → next ≡ at + width (get_or s at 0)
+pub next_width : (s : List ℕ) (at v next : ℕ) → number_at s at ≡ found v next → next ≡ at + width (get_or s at 0)
 next_width s at v next e =
     by_form s at v next e (λ x n. n ≡ at + width (get_or s at 0)) (λ h b. rw (width-1 _ b)) (λ h a b l. rw (width-2 _ a b)) (λ h a b l. rw (width-4 _ a b))
 
-pub decoded : (s : List ℕ) (at v next : ℕ) → Bytes s → number_at s at ≡ Value v next → Decoded s at v next
+pub decoded : (s : List ℕ) (at v next : ℕ) → Bytes s → number_at s at ≡ found v next → Decoded s at v next
 decoded s at v next bytes e = by_form s at v next e (Decoded s at) (is_1 s at bytes) (is_2 s at bytes) (is_4 s at bytes)
 
 -- ---- lists of bytes

@@ -1,17 +1,25 @@
 -- Document 01, "Numbers on the panel": the refusals of a number, 2 and 3, and of a count, 4.
-use Rattle.std.specs.Prelude.{ℕ, List, [], ◌∷◌, cond, ◌&&◌, leb}
+use Rattle.std.specs.Prelude.{ℕ, List, [], ◌∷◌, cond, ◌&&◌, leb, Result, Ok, Err}
+use Rattle.answer.specs.declared.refusal.Refusal.{Refusal}
+use Rattle.answer.specs.declared.refusal.Refusal.TheVariants.{BytesEnd, MalformedNumber, CountOutOfRange}
 use Rattle.number.specs.declared.Number.{Number}
-use Rattle.number.specs.declared.Number.TheVariants.{Value, Cut, BadByte, TooLong}
-use Rattle.number.specs.declared.checked.Checked.{Checked}
-use Rattle.number.specs.declared.checked.Checked.TheVariants.{Good, Bad}
-use Rattle.number.specs.Number.{number_at}
+use Rattle.number.specs.declared.NumberError.{NumberError}
+use Rattle.number.specs.declared.NumberError.TheVariants.{Cut, BadByte, TooLong}
+use Rattle.number.specs.Number.{found, number_at}
+
+-- a number that passed its checks and the offset after it, or its refusal
+abbrev pub Checked : Type 0
+Checked = Result Number Refusal
 
 -- 2 "bytes end inside or before an item", 3 "malformed number"
-unfoldable pub checked : Number → Checked
-checked (Value v next) = Good v next
-checked Cut = Bad 2
-checked BadByte = Bad 3
-checked TooLong = Bad 3
+abbrev pub refusal_of : NumberError → Refusal
+refusal_of Cut = BytesEnd
+refusal_of BadByte = MalformedNumber
+refusal_of TooLong = MalformedNumber
+
+unfoldable pub checked : Result Number NumberError → Checked
+checked (Ok n) = Ok n
+checked (Err e) = Err (refusal_of e)
 
 unfoldable pub checked_at : List ℕ → ℕ → Checked
 checked_at s at = checked (number_at s at)
@@ -20,14 +28,14 @@ checked_at s at = checked (number_at s at)
 abbrev pub number_refusals : List ℕ
 number_refusals = 2 ∷ 3 ∷ []
 
--- what was read goes on with the value and the offset after it, or with the refusal's number
-abbrev pub on_checked : {A : Type 0} → Checked → (ℕ → ℕ → A) → (ℕ → A) → A
-on_checked (Good v next) good bad = good v next
-on_checked (Bad refusal) good bad = bad refusal
+-- what was read goes on with the value and the offset after it, or with the refusal
+abbrev pub on_checked : {A : Type 0} → Checked → (ℕ → ℕ → A) → (Refusal → A) → A
+on_checked (Ok n) good bad = good n.value n.next
+on_checked (Err refusal) good bad = bad refusal
 
 -- 4 "a count, Rank, NumSizes or NumLoBounds breaks its rule", which is to be from `low` to `high`
 unfoldable pub count_of : (low high : ℕ) → Checked → Checked
-count_of low high c = on_checked c (λ v next. cond (leb low v && leb v high) (Good v next) (Bad 4)) Bad
+count_of low high c = on_checked c (λ v next. cond (leb low v && leb v high) (found v next) (Err CountOutOfRange)) Err
 
 unfoldable pub count_at : (low high : ℕ) → List ℕ → ℕ → Checked
 count_at low high s at = count_of low high (checked_at s at)

@@ -1,7 +1,8 @@
 -- Document 01, "Numbers and tokens": compressed numbers. What stands at an offset of a list of bytes, and the one encoding of a number.
-use Rattle.std.specs.Prelude.{ℕ, ◌+◌, ◌*◌, ◌/◌, ◌%◌, ◌<◌, List, [], ◌∷◌, ◌++◌, cond, length, get_or, take, drop, ltb, leb}
+use Rattle.std.specs.Prelude.{ℕ, ◌+◌, ◌*◌, ◌/◌, ◌%◌, ◌<◌, List, [], ◌∷◌, ◌++◌, cond, length, get_or, take, drop, ltb, leb, Result, Ok, Err}
 use Rattle.number.specs.declared.Number.{Number}
-use Rattle.number.specs.declared.Number.TheVariants.{Value, Cut, BadByte, TooLong}
+use Rattle.number.specs.declared.NumberError.{NumberError}
+use Rattle.number.specs.declared.NumberError.TheVariants.{Cut, BadByte, TooLong}
 
 -- a list whose elements are bytes, as those of a slice of bytes are (`slice_bytes`, proofs/Slices.antt)
 abbrev pub Bytes : List ℕ → Type 0
@@ -33,19 +34,26 @@ value4 s at =
     (get_or s at 0 % 0x20 * 0x100 + get_or s (at + 1) 0) * 0x10000
     + (get_or s (at + 2) 0 * 0x100 + get_or s (at + 3) 0)
 
+-- a number that was read, and the offset after it
+abbrev pub number : (value next : ℕ) → Number
+number value next = record { value = value; next = next }
+
+abbrev pub found : {E : Type 0} → (value next : ℕ) → Result Number E
+found value next = Ok (number value next)
+
 -- a form of k bytes with the value v: "a longer form than the value needs is malformed", which v is below `least`
-unfoldable pub whole : List ℕ → ℕ → (k least v : ℕ) → Number
-whole s at k least v = cond (leb (at + k) (length s)) (cond (leb least v) (Value v (at + k)) TooLong) Cut
+unfoldable pub whole : List ℕ → ℕ → (k least v : ℕ) → Result Number NumberError
+whole s at k least v = cond (leb (at + k) (length s)) (cond (leb least v) (found v (at + k)) (Err TooLong)) (Err Cut)
 
 -- "The leading one bits of the first byte (0, 1 or 2) give the length; three or more are malformed." The order of the faults: no
 -- first byte, a bad first byte, bytes that end too early, a longer form than needed.
-unfoldable pub number_at : List ℕ → ℕ → Number
+unfoldable pub number_at : List ℕ → ℕ → Result Number NumberError
 number_at s at =
-    cond (leb (length s) at) Cut
-    (cond (ltb (get_or s at 0) 0x80) (Value (get_or s at 0) (at + 1))
+    cond (leb (length s) at) (Err Cut)
+    (cond (ltb (get_or s at 0) 0x80) (found (get_or s at 0) (at + 1))
     (cond (ltb (get_or s at 0) 0xC0) (whole s at 2 0x80 (value2 s at))
     (cond (ltb (get_or s at 0) 0xE0) (whole s at 4 0x4000 (value4 s at))
-    BadByte)))
+    (Err BadByte))))
 
 -- "The leading one bits of the first byte (0, 1 or 2) give the length": how many bytes a number has that begins with the byte b. A byte
 -- that is malformed, "three or more", stands alone.

@@ -1,9 +1,9 @@
 -- Document 01, "Numbers and tokens": tokens, with the refusals 7 and 8 of "Numbers on the panel".
-use Rattle.std.specs.Prelude.{ℕ, ◌+◌, ◌*◌, ◌/◌, ◌%◌, List, ◌∷◌, cond, ◌&&◌, ltb, leb, eqb}
+use Rattle.std.specs.Prelude.{ℕ, ◌+◌, ◌*◌, ◌/◌, ◌%◌, List, ◌∷◌, cond, ◌&&◌, ltb, leb, eqb, Err}
 use Rattle.number.specs.declared.token.Counts.{Counts}
-use Rattle.number.specs.declared.checked.Checked.{Checked}
-use Rattle.number.specs.declared.checked.Checked.TheVariants.{Good, Bad}
-use Rattle.number.specs.Checked.{checked_at, on_checked, number_refusals}
+use Rattle.answer.specs.declared.refusal.Refusal.TheVariants.{WrongTag, RowOutOfRange}
+use Rattle.number.specs.Number.{found}
+use Rattle.number.specs.Checked.{Checked, checked_at, on_checked, number_refusals}
 
 -- "row times 4 plus tag"
 abbrev pub tag_of : ℕ → ℕ
@@ -37,9 +37,9 @@ unfoldable pub token_of : (tags : ℕ) → Counts → Checked → Checked
 token_of tags counts c =
     on_checked c
     (λ t next. cond (ltb (tag_of t) tags)
-    (cond (leb 1 (row_of t) && leb (row_of t) (rows_of counts (tag_of t))) (Good t next) (Bad 8))
-    (Bad 7))
-    Bad
+    (cond (leb 1 (row_of t) && leb (row_of t) (rows_of counts (tag_of t))) (found t next) (Err RowOutOfRange))
+    (Err WrongTag))
+    Err
 
 unfoldable pub token_at : (tags : ℕ) → Counts → List ℕ → ℕ → Checked
 token_at tags counts s at = token_of tags counts (checked_at s at)

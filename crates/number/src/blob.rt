@@ -2,26 +2,17 @@
 ghost use Rattle.std.specs.Prelude.{◌≡◌};
 ghost use Rattle.number.specs.Blob.{blob_at};
 
-use crate::checked::Checked;
+use crate::Number;
+use answer::refusal::Refusal;
 
 // The blob whose length stands at the offset `at`: its length, and the offset after its bytes.
-pub fn blob_at(s: &[u8], at: usize) -> Checked
+pub fn blob_at(s: &[u8], at: usize) -> Result<Number, Refusal>
     ensures { result ≡ blob_at s.now at }
 {
-    match crate::checked::checked_at(s, at) {
-        Checked::Good { value, next } => {
-            let length = value as usize;
-            if s.len() < length {
-                return Checked::Bad { refusal: 2 };
-            }
-            if s.len() - length < next {
-                return Checked::Bad { refusal: 2 };
-            }
-            Checked::Good {
-                value,
-                next: next + length,
-            }
-        }
-        Checked::Bad { refusal } => Checked::Bad { refusal },
+    let Number { value, next } = crate::checked::checked_at(s, at)?;
+    let end = next + value as usize;
+    if s.len() < end {
+        return Err(Refusal::BytesEnd);
     }
+    Ok(Number { value, next: end })
 }

@@ -2,7 +2,8 @@
 ghost use Rattle.std.specs.Prelude.{◌≡◌};
 ghost use Rattle.number.specs.Token.{tag_of, row_of, row_counts, no_counts, rows_of, token_at};
 
-use crate::checked::Checked;
+use crate::Number;
+use answer::refusal::Refusal;
 
 // The tags below these are good in VALUETYPE, CLASS and GENERICINST, and in a modifier.
 pub const TYPE_TAGS: u32 = 2;
@@ -13,7 +14,7 @@ pub const MOD_TAGS: u32 = 3;
 pub const TYPE_SPEC_TAG: u32 = 2;
 
 // The row counts of the tables TypeDef, TypeRef and TypeSpec.
-#[derive(Clone, Copy)]
+#[derive(Clone, Copy, Debug, PartialEq, Eq)]
 pub struct Counts {
     pub defs: u32,
     pub refs: u32,
@@ -59,24 +60,17 @@ fn rows_of(counts: Counts, tag: u32) -> u32
 }
 
 // The token at the offset `at`, whose tag has to be below `tags` and whose row has to be in its table.
-pub fn token_at(s: &[u8], at: usize, tags: u32, counts: Counts) -> Checked
+pub fn token_at(s: &[u8], at: usize, tags: u32, counts: Counts) -> Result<Number, Refusal>
     ensures { result ≡ token_at tags counts s.now at }
 {
-    match crate::checked::checked_at(s, at) {
-        Checked::Good { value, next } => {
-            let tag = tag_of(value);
-            let row = row_of(value);
-            if tags <= tag {
-                return Checked::Bad { refusal: 7 };
-            }
-            if row == 0 {
-                return Checked::Bad { refusal: 8 };
-            }
-            if rows_of(counts, tag) < row {
-                return Checked::Bad { refusal: 8 };
-            }
-            Checked::Good { value, next }
-        }
-        Checked::Bad { refusal } => Checked::Bad { refusal },
+    let token = crate::checked::checked_at(s, at)?;
+    let tag = tag_of(token.value);
+    let row = row_of(token.value);
+    if tags <= tag {
+        return Err(Refusal::WrongTag);
     }
+    if row == 0 || rows_of(counts, tag) < row {
+        return Err(Refusal::RowOutOfRange);
+    }
+    Ok(token)
 }

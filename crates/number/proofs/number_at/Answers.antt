@@ -1,5 +1,6 @@
 -- `number::number_at` meets its contract. Assumes nothing.
-use Rattle.number.specs.declared.Number.TheVariants.{Value}
+use Rattle.number.specs.declared.NumberError.{NumberError}
+use Rattle.number.specs.Number.{found}
 use Prim.Native.Nat.{ℕ, ◌+◌, ◌-◌, ◌≤◌}
 use mathlib.Core.Path.{sym, ap, ◌∙◌}
 use native.Mathlib.Omega.{arith}
@@ -17,7 +18,7 @@ pub returns-in-0 : goal.returns-in-0
 returns-in-0 c =
     let a = c.args in
     let small = (c.type_inv.s a.at).fits in
-    ap (λ (v : ℕ). Value v (a.at + 1)) c.byte.ensures.0
+    ap (λ (v : ℕ). found {E = NumberError} v (a.at + 1)) c.byte.ensures.0
     ∙ sym (one_byte a.s.now a.at (omega arith) (ones_0 _ small c.in-0.is))
 
 pub returns-in-1 : goal.returns-in-1

@@ -1,24 +1,16 @@
 -- `number::checked::checked_at` meets its contract. Assumes nothing.
-use Rattle.number.specs.Checked.{checked}
-use Rattle.number.proofs.Checks.{checks, check-small}
+use Rattle.std.proofs.Common.{rules}
+use Rattle.number.specs.Checked.{checked, checked_at}
+use Rattle.number.proofs.Checks.{check-small}
 use Rattle.number.proofs.checked.checked_at.Goals as goal
 
 pub returns-then-value-lt128 : goal.returns-then-value-lt128
-unfolding checked
 returns-then-value-lt128 c = check-small _ _ _ c.if-at-s.true c.byte-value.ensures.0 c.if-value-lt128.true
 
-pub returns-in-Value : goal.returns-in-Value
-unfolding checked
-returns-in-Value c = checks _ _ c.number_at.ensures c.in-Value.is
+pub returns-in_err-number_at : goal.returns-in_err-number_at
+unfolding checked_at checked
+returns-in_err-number_at c = search rules
 
-pub returns-in-Cut : goal.returns-in-Cut
-unfolding checked
-returns-in-Cut c = checks _ _ c.number_at.ensures c.in-Cut.is
-
-pub returns-in-BadByte : goal.returns-in-BadByte
-unfolding checked
-returns-in-BadByte c = checks _ _ c.number_at.ensures c.in-BadByte.is
-
-pub returns-in-TooLong : goal.returns-in-TooLong
-unfolding checked
-returns-in-TooLong c = checks _ _ c.number_at.ensures c.in-TooLong.is
+pub returns : goal.returns
+unfolding checked_at checked
+returns c = search rules
