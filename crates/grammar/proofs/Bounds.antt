@@ -8,10 +8,12 @@ use lib.ListN.{length, get_or, length-append}
 use lib.Dec.{ltb, leb, eqb}
 use borrow.Author.Tests.{ltb-true, le-leb}
 use Rattle.number.specs.Number.{max_number}
-use Rattle.number.specs.Checked.{checked_at, count_at}
+use Rattle.number.specs.Checked.{Checked, checked_at, count_at}
 use Rattle.number.specs.Token.{type_tags, mod_tags, token_at}
-use Rattle.number.specs.declared.checked.Checked.{Checked}
-use Rattle.number.specs.declared.checked.Checked.TheVariants.{Good, Bad}
+use Rattle.std.specs.Prelude.{Ok, Err}
+use Rattle.answer.specs.declared.refusal.Refusal.{Refusal}
+use Rattle.answer.specs.Refusal.{number_of}
+use Rattle.number.specs.Number.{found}
 use Rattle.number.specs.declared.token.Counts.{Counts}
 use Rattle.element.specs.Element.{within, form_of}
 use Rattle.element.specs.declared.Place.{Place}
@@ -33,8 +35,8 @@ ends n j e = holds (j, e)
 
 -- a number and what stands behind it
 pub holds_numbered : {P : ℕ → ℕ → List Node → Type 0} (o : Checked) (at : ℕ) (k : ℕ → ℕ → Out) → ((v next : ℕ) → Holds P (k v next)) → Holds P (numbered o at k)
-holds_numbered (Good v next) at k f = f v next
-holds_numbered (Bad refusal) at k f = stopped
+holds_numbered (Ok n) at k f = f n.value n.next
+holds_numbered (Err refusal) at k f = stopped
 
 pub ends-many : (item : ℕ → ℕ → Out) → ((at n : ℕ) → Holds (Ends n) (item at n)) → (k at n : ℕ) → n ≤ max_nodes → Holds (Ends n) (many item k at n)
 unfolding many

@@ -9,10 +9,12 @@ use lib.ListN.{length}
 use lib.Dec.{ltb, leb}
 use borrow.Author.Tests.{lt-ltb, le-leb}
 use Rattle.number.specs.Number.{max_number}
-use Rattle.number.specs.Checked.{checked_at, count_at}
+use Rattle.number.specs.Checked.{Checked, checked_at, count_at}
 use Rattle.number.specs.Token.{type_tags, mod_tags, token_at}
-use Rattle.number.specs.declared.checked.Checked.{Checked}
-use Rattle.number.specs.declared.checked.Checked.TheVariants.{Good}
+use Rattle.std.specs.Prelude.{Ok, Err}
+use Rattle.answer.specs.declared.refusal.Refusal.{Refusal}
+use Rattle.answer.specs.Refusal.{number_of}
+use Rattle.number.specs.Number.{found}
 use Rattle.number.specs.declared.token.Counts.{Counts}
 use Rattle.element.specs.Element.{allowed}
 use Rattle.element.specs.declared.Place.{Place}
@@ -47,19 +49,19 @@ module _ (s : List ℕ) where
   pub record Reads (X : Span) (item : ℕ → ℕ → Out) : Type 0 where
     pub run : {at n at' n' z : ℕ} {bs : List ℕ} {rs : List Node} → X at n at' n' bs rs → Stands s at bs z → Meets (item at n) at' n' rs z
 
-  at_numeral : {v a z : ℕ} {bs : List ℕ} {m : ℕ} → Numeral v a z bs → Stands s a bs m → (checked_at s a ≡ Good v z) × (m ≡ z)
+  at_numeral : {v a z : ℕ} {bs : List ℕ} {m : ℕ} → Numeral v a z bs → Stands s a bs m → (checked_at s a ≡ found v z) × (m ≡ z)
   at_numeral {v} {a} {z} {bs} {m} w h =
       let e : m ≡ z = stands_length h ∙ sym w.ends in
       (reads s a v z w.small (rw (← w.written, ← e) h), e)
 
   at_token : {t a z : ℕ} {bs : List ℕ} {m : ℕ} (tags : ℕ) (counts : Counts) → Numeral t a z bs → Token tags counts t → Stands s a bs m
-      → (token_at tags counts s a ≡ Good t z) × (m ≡ z)
+      → (token_at tags counts s a ≡ found t z) × (m ≡ z)
   at_token {a = a} tags counts w k h =
       let e = at_numeral w h in
       (sym (token-in s a refl tags counts e.0 refl refl refl k.tag (λ z. omega (arith, k.positive)) k.within), e.1)
 
   at_count : {v a z : ℕ} {bs : List ℕ} {m : ℕ} (low high : ℕ) → Numeral v a z bs → low ≤ v → v ≤ high → Stands s a bs m
-      → (count_at low high s a ≡ Good v z) × (m ≡ z)
+      → (count_at low high s a ≡ found v z) × (m ≡ z)
   at_count {a = a} low high w l u h =
       let e = at_numeral w h in
       (sym (count-in s a refl low high e.0 l u), e.1)
@@ -77,13 +79,13 @@ module _ (s : List ℕ) where
         let r = g (moved m.ends q.2) in
         record { gives = rw m.gives r.gives; ends = r.ends }
 
-    numbered-last : {v a₁ : ℕ} (a : ℕ) (o : Checked) (k : ℕ → ℕ → Out) → (o ≡ Good v a₁) × (z ≡ a₁)
+    numbered-last : {v a₁ : ℕ} (a : ℕ) (o : Checked) (k : ℕ → ℕ → Out) → (o ≡ found v a₁) × (z ≡ a₁)
         → (z ≡ a₁ → Meets (k v a₁) a' n' rs z) → Meets (numbered o a k) a' n' rs z
     numbered-last a o k e f =
         let r = f e.1 in
         record { gives = rw e.0 r.gives; ends = r.ends }
 
-    numbered-front : {v a a₁ : ℕ} (xs ys : List ℕ) (o : Checked) (k : ℕ → ℕ → Out) → ((m : ℕ) → Stands s a xs m → (o ≡ Good v a₁) × (m ≡ a₁))
+    numbered-front : {v a a₁ : ℕ} (xs ys : List ℕ) (o : Checked) (k : ℕ → ℕ → Out) → ((m : ℕ) → Stands s a xs m → (o ≡ found v a₁) × (m ≡ a₁))
         → Stands s a (xs ++ ys) z → (Stands s a₁ ys z → Meets (k v a₁) a' n' rs z) → Meets (numbered o a k) a' n' rs z
     numbered-front xs ys o k f h g =
         let q = split xs ys h in

@@ -11,10 +11,13 @@ use lib.ListN.{length, get_or}
 use lib.Dec.{T, ltb, leb, eqb}
 use borrow.Author.Tests.{ltb-true, lt-ltb, le-leb}
 use Rattle.number.specs.Number.{max_number, width}
-use Rattle.number.specs.Checked.{checked_at, count_of, count_at}
+use Rattle.number.specs.Checked.{Checked, checked_at, count_of, count_at}
 use Rattle.number.specs.Token.{type_tags, mod_tags, token_of, token_at}
-use Rattle.number.specs.declared.checked.Checked.{Checked}
-use Rattle.number.specs.declared.checked.Checked.TheVariants.{Good, Bad}
+use Rattle.answer.specs.declared.refusal.Refusal.TheVariants.{BytesEnd}
+use Rattle.std.specs.Prelude.{Ok, Err}
+use Rattle.answer.specs.declared.refusal.Refusal.{Refusal}
+use Rattle.answer.specs.Refusal.{number_of}
+use Rattle.number.specs.Number.{found}
 use Rattle.number.specs.declared.token.Counts.{Counts}
 use Rattle.number.proofs.Cases.{width-1}
 use Rattle.number.proofs.Checks.{Way, passed, refused, number-way, count-way, token-way}
@@ -93,15 +96,15 @@ module _ (s t : List ℕ) where
   abbrev Numeric : ℕ → ℕ → Type 0
   Numeric at code = item_end code s at ≡ at + width (get_or s at 0)
 
-  same_numbered : {Rule : ℕ → Type 0} (f : Checked → Checked) (at : ℕ) (k k' : ℕ → ℕ → Out) → Way (checked_at s at) Rule (Numeric at) (f (checked_at s at)) → f (Bad 2) ≡ Bad 2
+  same_numbered : {Rule : ℕ → Type 0} (f : Checked → Checked) (at : ℕ) (k k' : ℕ → ℕ → Out) → Way (checked_at s at) Rule (Numeric at) (f (checked_at s at)) → f (Err BytesEnd) ≡ Err BytesEnd
       → ((v z : ℕ) → z ≤ length s → z ≡ at + width (get_or s at 0) → Same z (k v z) (k' v z)) → Same at (numbered (f (checked_at s at)) at k) (numbered (f (checked_at t at)) at k')
   same_numbered {Rule} f at k k' w b h = go (checked-own s t at)
     where
       given : (c : Checked) → Way (checked_at s at) Rule (Numeric at) c → at + width (get_or s at 0) ≤ length s → Same (at + width (get_or s at 0)) (numbered c at k) (numbered c at k')
-      given (Good v z) (passed e r) m = let i = checked-width s at v z e in rw (← i) (h v z (omega arith) i)
-      given (Bad code) (refused _ i) m = fails code at i m (λ g. refl)
+      given (Ok n) (passed e r) m = let i = checked-width s at n.value n.next e in rw (← i) (h n.value n.next (omega arith) i)
+      given (Err refusal) (refused _ i) m = fails (number_of refusal) at i m (λ g. refl)
 
-      go : (checked_at s at ≡ Bad 2) ⊎ Own s t at → Same at (numbered (f (checked_at s at)) at k) (numbered (f (checked_at t at)) at k')
+      go : (checked_at s at ≡ Err BytesEnd) ⊎ Own s t at → Same at (numbered (f (checked_at s at)) at k) (numbered (f (checked_at t at)) at k')
       go (inl e) = rw (ap f e ∙ b) (faulted 2 at (λ r. absurd r))
       go (inr o) =
           earlier {z = at + width (get_or s at 0)} (omega arith) (λ g. ap (λ c. numbered (f c) at k') (o.alike g))

@@ -9,10 +9,12 @@ use lib.ListN.{length, get_or}
 use lib.Dec.{ltb, leb, eqb}
 use borrow.Author.Tests.{eqb-true}
 use Rattle.number.specs.Number.{max_number}
-use Rattle.number.specs.Checked.{checked_at, count_at}
+use Rattle.number.specs.Checked.{Checked, checked_at, count_at}
 use Rattle.number.specs.Token.{type_spec_token, type_tags, mod_tags, token_at}
-use Rattle.number.specs.declared.checked.Checked.{Checked}
-use Rattle.number.specs.declared.checked.Checked.TheVariants.{Good, Bad}
+use Rattle.std.specs.Prelude.{Ok, Err}
+use Rattle.answer.specs.declared.refusal.Refusal.{Refusal}
+use Rattle.answer.specs.Refusal.{number_of}
+use Rattle.number.specs.Number.{found}
 use Rattle.number.specs.declared.token.Counts.{Counts}
 use Rattle.number.proofs.Checks.{Way, passed, refused, TokenRule, token-way, spec_row}
 use Rattle.element.specs.Element.{by_sort, anywhere, nowhere, within, bare, leads, entries, form_of, places}
@@ -81,8 +83,8 @@ module _ (counts : Counts) where
     ranged_token at k f = go (token_at mod_tags counts s at) (token-way (λ refusal. Unit {0}) s at mod_tags counts _)
       where
         go : (c : Checked) → Way (checked_at s at) (TokenRule mod_tags counts) (λ refusal. Unit {0}) c → Holds All (numbered c at k)
-        go (Good t next) (passed e rule) = f t next rule
-        go (Bad refusal) (refused _ r) = stopped
+        go (Ok n) (passed e rule) = f n.value n.next rule
+        go (Err refusal) (refused _ r) = stopped
 
     ranged_many : (item : ℕ → ℕ → Out) → ((at n : ℕ) → Holds All (item at n)) → (k at n : ℕ) → Holds All (many item k at n)
     unfolding many

@@ -11,10 +11,11 @@ use lib.ListN.{length, get_or}
 use lib.Dec.{T, ltb, leb, eqb}
 use borrow.Author.Tests.{ltb-true, leb-true, eqb-true}
 use Rattle.number.specs.Number.{max_number}
-use Rattle.number.specs.Checked.{checked_at}
+use Rattle.number.specs.Checked.{Checked, checked_at}
 use Rattle.number.specs.Token.{type_tags, mod_tags}
-use Rattle.number.specs.declared.checked.Checked.{Checked}
-use Rattle.number.specs.declared.checked.Checked.TheVariants.{Good, Bad}
+use Rattle.std.specs.Prelude.{Ok, Err}
+use Rattle.answer.specs.Refusal.{number_of}
+use Rattle.number.specs.Number.{found}
 use Rattle.number.specs.declared.token.Counts.{Counts}
 use Rattle.number.proofs.Checks.{Way, passed, refused, checked-onward, number-way, count-way, token-way}
 use Rattle.element.specs.Element.{allowed, within, form_of}
@@ -47,8 +48,8 @@ module _ (s : List ℕ) where
   -- ---- numbers
 
   told-numbered : {Rule : ℕ → Type 0} (o : Checked) (at : ℕ) (k : ℕ → ℕ → Out) → Way (checked_at s at) Rule Refusal o → at ≤ length s → ((v next : ℕ) → next ≤ length s → Told (k v next)) → Told (numbered o at k)
-  told-numbered (Good v next) at k (passed e h) l f = f v next (checked-onward s at v next e).1
-  told-numbered (Bad refusal) at k (refused _ r) l f = told refusal r l
+  told-numbered (Ok n) at k (passed e h) l f = f n.value n.next (checked-onward s at n.value n.next e).1
+  told-numbered (Err refusal) at k (refused _ r) l f = told (number_of refusal) r l
 
   told-number : (at : ℕ) (k : ℕ → ℕ → Out) → at ≤ length s → ((v next : ℕ) → next ≤ length s → Told (k v next)) → Told (number s at k)
   told-number at k l f = told-numbered _ at k (number-way Refusal s at _) l f

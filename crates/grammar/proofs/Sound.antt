@@ -9,10 +9,12 @@ use lib.ListN.{length, get_or}
 use lib.Dec.{ltb, leb}
 use borrow.Author.Tests.{ltb-true, leb-true}
 use Rattle.number.specs.Number.{Bytes, encode, max_number}
-use Rattle.number.specs.Checked.{checked_at}
+use Rattle.number.specs.Checked.{Checked, checked_at}
 use Rattle.number.specs.Token.{type_tags, mod_tags}
-use Rattle.number.specs.declared.checked.Checked.{Checked}
-use Rattle.number.specs.declared.checked.Checked.TheVariants.{Good, Bad}
+use Rattle.std.specs.Prelude.{Ok, Err}
+use Rattle.answer.specs.declared.refusal.Refusal.{Refusal}
+use Rattle.answer.specs.Refusal.{number_of}
+use Rattle.number.specs.Number.{found}
 use Rattle.number.specs.declared.token.Counts.{Counts}
 use Rattle.element.specs.Element.{allowed, within, form_of}
 use Rattle.element.specs.declared.Place.{Place}
@@ -78,10 +80,12 @@ module _ (s : List ℕ) (bytes : Bytes s) where
     -- a number that passed its checks stands there encoded, and its rule holds of it
     holds_numbered : {Rule : ℕ → Type 0} (at : ℕ) (o : Checked) (k : ℕ → ℕ → Out) → Way (checked_at s at) Rule (λ c. Unit {0}) o
         → ((v z : ℕ) (bs : List ℕ) → Numeral v at z bs → Rule v → Stands s at bs z → Holds P (k v z)) → Holds P (numbered o at k)
-    holds_numbered at (Good v z) k (passed e h) f =
+    holds_numbered at (Ok n) k (passed e h) f =
+        let v = n.value in
+        let z = n.next in
         let g = got s bytes at v z e in
         f v z (encode v) (record { small = g.fits; written = refl; ends = stands_length g.stands }) h g.stands
-    holds_numbered at (Bad c) k w f = stopped
+    holds_numbered at (Err c) k w f = stopped
 
     holds_number : (at : ℕ) (k : ℕ → ℕ → Out)
         → ((v z : ℕ) (bs : List ℕ) → Numeral v at z bs → Stands s at bs z → Holds P (k v z)) → Holds P (number s at k)

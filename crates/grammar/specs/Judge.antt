@@ -2,9 +2,9 @@
 -- 01's order. "Order, reader: 12, 13, 1, then the first fault from the left, then 9, then 11."
 use Rattle.std.specs.Prelude.{ℕ, zero, suc, ◌+◌, Bool, true, false, ◌&&◌, List, [], ◌∷◌, ◌++◌, length, get_or, ltb, leb, eqb}
 use Rattle.number.specs.Number.{max_number}
-use Rattle.number.specs.Checked.{checked_at, on_checked, count_at}
+use Rattle.answer.specs.Refusal.{number_of}
+use Rattle.number.specs.Checked.{Checked, checked_at, on_checked, count_at}
 use Rattle.number.specs.Token.{type_tags, mod_tags, token_at}
-use Rattle.number.specs.declared.checked.Checked.{Checked}
 use Rattle.number.specs.declared.token.Counts.{Counts}
 use Rattle.element.specs.Element.{within, allowed, form_of}
 use Rattle.element.specs.declared.Place.{Place}
@@ -32,7 +32,7 @@ check false refusal at k = fault refusal at
 
 -- go on with a number that passed its checks; its refusals are at its start
 abbrev pub numbered : Checked → ℕ → (ℕ → ℕ → Out) → Out
-numbered c at k = on_checked c k (λ refusal. fault refusal at)
+numbered c at k = on_checked c k (λ refusal. fault (number_of refusal) at)
 
 abbrev pub number : List ℕ → ℕ → (ℕ → ℕ → Out) → Out
 number s at k = numbered (checked_at s at) at k

@@ -40,7 +40,7 @@ pub const SIZE: u32 = 0x104;
 pub const LOW: u32 = 0x105;
 
 // One record of the node table.
-#[derive(Clone, Copy)]
+#[derive(Clone, Copy, Debug, PartialEq, Eq)]
 pub struct Node {
     // the element byte, or a number from 100 hex up for a node that has none
     pub kind: u32,
@@ -58,13 +58,7 @@ pub struct Node {
 pub fn known_counts(counts: Counts) -> bool
     ensures { result ≡ known_counts counts }
 {
-    if MAX_ROWS < counts.defs {
-        return false;
-    }
-    if MAX_ROWS < counts.refs {
-        return false;
-    }
-    counts.specs <= MAX_ROWS
+    counts.defs <= MAX_ROWS && counts.refs <= MAX_ROWS && counts.specs <= MAX_ROWS
 }
 
 // The place of the root of a kind.
@@ -86,19 +80,11 @@ pub fn kind_of(place: Place, byte: u8) -> u32
     ensures { result ≡ kind_of place byte }
 {
     match place {
-        Place::Type => byte as u32,
-        Place::Pointee => byte as u32,
-        Place::Param => byte as u32,
-        Place::RetType => byte as u32,
-        Place::Local => byte as u32,
-        Place::Pinned => byte as u32,
-        Place::TypeSpec => byte as u32,
-        Place::ModifiedSpec => byte as u32,
-        Place::FnPtrMethod => METHOD,
+        Place::FnPtrMethod | Place::MethodDefSig => METHOD,
         Place::FieldSig => FIELD,
         Place::LocalVarSig => LOCALS,
         Place::PropertySig => PROPERTY,
-        Place::MethodDefSig => METHOD,
+        _ => byte as u32,
     }
 }
 
@@ -106,10 +92,7 @@ pub fn kind_of(place: Place, byte: u8) -> u32
 pub fn is_modifier(kind: u32) -> bool
     ensures { result ≡ is_modifier kind }
 {
-    if kind == 0x1F {
-        return true;
-    }
-    kind == 0x20
+    kind == 0x1F || kind == 0x20
 }
 
 // The record with index n of a flat node table.
