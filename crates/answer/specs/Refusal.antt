@@ -1,6 +1,7 @@
 -- Document 01, "Numbers on the panel", and document 02, wish 8: the number of each refusal.
 use Rattle.std.specs.Prelude.{ℕ}
 use Rattle.answer.specs.declared.refusal.Refusal.{Refusal}
+use Rattle.answer.specs.declared.refusal.Fault.{Fault}
 use Rattle.answer.specs.declared.refusal.Refusal.TheVariants.{BlobTooLong, BytesEnd, MalformedNumber, CountOutOfRange, ByteNotAllowed, TooDeep, WrongTag, RowOutOfRange, BytesLeft, TooManyNodes, TooFewRecords, UnknownKind, TableTooLarge, NoBlob, OutputTooShort, NoSuchRow, NothingToAcknowledge, AlreadyMarked, SizeOutOfRange, TooFewWords}
 
 abbrev pub number_of : Refusal → ℕ
@@ -44,3 +45,6 @@ number_of AlreadyMarked = 18
 number_of SizeOutOfRange = 19
 -- "too little, that is fewer than 16 32-bit numbers for each row"
 number_of TooFewWords = 27
+
+abbrev pub fault_at : Refusal → (place : ℕ) → Fault
+fault_at refusal place = record { refusal = refusal; place = place }

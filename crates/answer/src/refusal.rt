@@ -1,6 +1,6 @@
 // Why a call refuses: document 01's list, "Numbers on the panel", with document 02's 27.
 ghost use Rattle.std.specs.Prelude.{◌≡◌};
-ghost use Rattle.answer.specs.Refusal.{number_of};
+ghost use Rattle.answer.specs.Refusal.{number_of, fault_at};
 
 // Each with its number.
 #[derive(Clone, Copy, Debug, PartialEq, Eq)]
@@ -40,4 +40,15 @@ impl From<Refusal> for u32 {
 pub struct Fault {
     pub refusal: Refusal,
     pub place: usize,
+}
+
+impl Refusal {
+    pub fn at(self, place: usize) -> Fault
+        ensures { result ≡ fault_at self place }
+    {
+        Fault {
+            refusal: self,
+            place,
+        }
+    }
 }
