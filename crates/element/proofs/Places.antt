@@ -12,9 +12,9 @@ use Rattle.element.specs.contracts.Place.{the_type}
 use Rattle.element.specs.contracts.Form.{the_type as form_type_lem}
 use Rattle.element.specs.declared.Place.{Place}
 use Rattle.element.specs.declared.Form.{Form}
-use Rattle.element.specs.declared.Form.TheVariants.{Refused}
+use Rattle.element.specs.declared.Form.TheVariants.{Refused, Callable}
 use Rattle.element.specs.Element.{by_sort, nowhere, allowed, lookup, bare, leads, entries, form_of, places, is_type_place}
-use Rattle.element.proofs.Runs.{uncut, same_run, all_forms, lookup-passes, uncalled, called, uncalled_form}
+use Rattle.element.proofs.Runs.{uncut, same_run, all_forms, lookup-passes, called, uncalled_form}
 
 -- a value for each place
 abbrev pub each : {A : Type 0} → (Place → A) → List Place → List A
@@ -84,7 +84,7 @@ module _ (p : Place) (t : is_type_place p ≡ true) where
 -- ---- forms by place
 
 -- a byte below FNPTR that leads no method is refused
-pub unled : (b : ℕ) → OneOf uncalled (tag_of form_type_lem (form_of Place.FnPtrMethod b)) → form_of Place.FnPtrMethod b ≡ Refused
+pub unled : (b : ℕ) → ((p : Place) → form_of Place.FnPtrMethod b ≡ Callable p → ⊥) → form_of Place.FnPtrMethod b ≡ Refused
 unfolding form_of entries leads
 unled b h = uncalled_form (lookup leads b) (lookup-passes called leads b refl refl) h
 

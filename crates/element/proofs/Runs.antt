@@ -12,6 +12,7 @@ use denote.Enum.Declared.{tag_of}
 use types.Run.{OneOf, miss}
 use borrow.Author.Tests.{leb-true, le-leb, ltb-true, ltb-false}
 use Rattle.element.specs.contracts.Form.{the_type}
+use Rattle.element.specs.declared.Place.{Place}
 use Rattle.element.specs.declared.Form.{Form}
 use Rattle.element.specs.declared.Form.TheVariants.{Refused, Leaf, Named, Variable, Wrap, Modified, Counted, Array, Instance, Callable, Generic}
 use Rattle.element.specs.Element.{by_sort, anywhere, nowhere, Entry, run, allowed, within, lookup}
@@ -117,15 +118,11 @@ unrefused f h = go (allowed f) refl
 pub unmet : {A X : Type 0} (test : A → Bool) {x y : A} → x ≡ y → test y ≡ false → test x ≡ true → X
 unmet test e f t = let z : ◌≡◌ {A = ℕ} 0 1 = cc in absurd (omega arith)
 
--- the tags of all forms but Callable
-abbrev pub uncalled : List ℕ
-uncalled = 0 ∷ 1 ∷ 2 ∷ 3 ∷ 4 ∷ 5 ∷ 6 ∷ 7 ∷ 8 ∷ 10 ∷ []
-
 -- where only Callable is allowed
 abbrev pub called : Form → Bool
 called f = by_sort true false nowhere nowhere nowhere anywhere nowhere f
 
-pub uncalled_form : (f : Form) → called f ≡ true → OneOf uncalled (tag_of the_type f) → f ≡ Refused
+pub uncalled_form : (f : Form) → called f ≡ true → ((p : Place) → f ≡ Callable p → ⊥) → f ≡ Refused
 uncalled_form Refused e h = refl
 uncalled_form Leaf e h = cc
 uncalled_form Named e h = cc
@@ -135,5 +132,5 @@ uncalled_form (Modified p) e h = cc
 uncalled_form (Counted p) e h = cc
 uncalled_form Array e h = cc
 uncalled_form Instance e h = cc
-uncalled_form (Callable p) e h = absurd (miss uncalled 9 tt h)
+uncalled_form (Callable p) e h = absurd (h p refl)
 uncalled_form (Generic p) e h = cc

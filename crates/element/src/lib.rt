@@ -7,7 +7,7 @@ ghost use Rattle.element.specs.Element.{allowed, bare, lookup, form_of};
 pub mod types;
 
 // Where in the grammar a node stands.
-#[derive(Clone, Copy)]
+#[derive(Clone, Copy, Debug, PartialEq, Eq)]
 pub enum Place {
     Type,
     // what PTR points to
@@ -31,7 +31,7 @@ pub enum Place {
 }
 
 // What follows a code byte.
-#[derive(Clone, Copy)]
+#[derive(Clone, Copy, Debug, PartialEq, Eq)]
 pub enum Form {
     // the byte is not allowed in its place
     Refused,

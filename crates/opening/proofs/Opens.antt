@@ -10,9 +10,8 @@ use lib.ListN.{length, get_or}
 use lib.Dec.{ltb, leb, eqb}
 use borrow.Author.Tests.{leb-true, eqb-true}
 use Rattle.number.specs.Number.{max_number}
-use Rattle.number.specs.Checked.{checked_at, count_at}
+use Rattle.number.specs.Checked.{Checked, checked_at, count_at}
 use Rattle.number.specs.Token.{type_tags, mod_tags, token_at}
-use Rattle.number.specs.declared.checked.Checked.{Checked}
 use Rattle.number.specs.declared.token.Counts.{Counts}
 use Rattle.number.proofs.Checks.{checked-through, checked-test}
 use Rattle.element.specs.Element.{allowed, within, bare, leads, entries, form_of, is_type_place}
@@ -26,13 +25,16 @@ use Rattle.element.proofs.Places.{is_fn_ptr_method, fn_ptr_method, type_form, si
 use Rattle.grammar.proofs.Places.{type_kind}
 use Rattle.grammar.proofs.Sound.{both_left, both_right}
 use Rattle.grammar.proofs.Complete.{both}
+use Rattle.std.specs.Prelude.{Result, Ok, Err}
+use Rattle.answer.specs.Refusal.{number_of, fault_at}
+use Rattle.answer.specs.declared.refusal.Fault.{Fault}
+use Rattle.answer.specs.declared.refusal.Refusal.TheVariants.{BytesEnd, ByteNotAllowed, TooDeep, TooManyNodes}
 use Rattle.opening.specs.Code.{coded}
-use Rattle.opening.specs.Open.{head_of, opening, wrapped_of, listed_of, instance_of, instance_at, head_at, open_at}
-use Rattle.opening.specs.Lead.{leading, counted_of, call_at, generic_at, lead_form, lead_at}
+use Rattle.opening.specs.Open.{Opened, head_of, opening, wrapped_of, listed_of, instance_of, instance_at, head_at, open_at}
+use Rattle.opening.specs.Lead.{Begun, leading, counted_of, call_at, generic_at, lead_form, lead_at}
 use Rattle.opening.specs.Means.{record_of, sealed, and_then, series, signature_of, on_lead, on_open}
 use Rattle.opening.specs.declared.Head.{Head}
 use Rattle.opening.specs.declared.signatures.Lead.{Lead}
-use Rattle.opening.specs.declared.signatures.Begun.{Begun}
 use Rattle.opening.specs.declared.types.Open.{Open}
 use Rattle.opening.proofs.Codes.{coded-begins}
 
@@ -80,19 +82,19 @@ one-series f at n = series-same f 1 at n ∙ many-one f at n
 
 -- ---- the code byte
 
--- what is read behind it, where the outcomes of `shut` and x are those of the judge
-opened-coded : {A : Type 0} (on : A → Out) (shut : ℕ → ℕ → A) → ((r q : ℕ) → fault r q ≡ on (shut r q)) → (d : ℕ) (s : List ℕ) (p : Place) (at n : ℕ) (k : ℕ → Form → Out) (x : A)
-    → (1 ≤ d → k (get_or s at 0) (form_of p (get_or s at 0)) ≡ on x) → opened d s p at n k ≡ on (coded d s p at n shut x)
-opened-coded on shut f d s p at n k x e = go (ltb at (length s)) (allowed (form_of p (get_or s at 0))) (leb 1 d) (ltb n max_nodes) (λ q. e (leb-true 1 d q))
+-- what is read behind it, where the outcomes of a fault and of x are those of the judge
+opened-coded : {A : Type 0} (on : Result A Fault → Out) → ((r : Fault) → fault (number_of r.refusal) r.place ≡ on (Err r)) → (d : ℕ) (s : List ℕ) (p : Place) (at n : ℕ) (k : ℕ → Form → Out) (x : Result A Fault)
+    → (1 ≤ d → k (get_or s at 0) (form_of p (get_or s at 0)) ≡ on x) → opened d s p at n k ≡ on (coded d s p at n x)
+opened-coded on f d s p at n k x e = go (ltb at (length s)) (allowed (form_of p (get_or s at 0))) (leb 1 d) (ltb n max_nodes) (λ q. e (leb-true 1 d q))
   where
     go : (t u v w : Bool) → (v ≡ true → k (get_or s at 0) (form_of p (get_or s at 0)) ≡ on x)
         → check t 2 at (λ _. check u 5 at (λ _. check v 6 at (λ _. check w 10 at (λ _. k (get_or s at 0) (form_of p (get_or s at 0))))))
-        ≡ on (cond t (cond u (cond v (cond w x (shut 10 at)) (shut 6 at)) (shut 5 at)) (shut 2 at))
+        ≡ on (cond t (cond u (cond v (cond w x (Err (fault_at TooManyNodes at))) (Err (fault_at TooDeep at))) (Err (fault_at ByteNotAllowed at))) (Err (fault_at BytesEnd at)))
     go true true true true e = e refl
-    go true true true false e = f 10 at
-    go true true false w e = f 6 at
-    go true false v w e = f 5 at
-    go false u v w e = f 2 at
+    go true true true false e = f (fault_at TooManyNodes at)
+    go true true false w e = f (fault_at TooDeep at)
+    go true false v w e = f (fault_at ByteNotAllowed at)
+    go false u v w e = f (fault_at BytesEnd at)
 
 -- a node at any depth left
 node-opened : (d : ℕ) (s : List ℕ) (counts : Counts) (p : Place) (at n : ℕ)
@@ -107,31 +109,31 @@ node-opened (suc d) s counts p at n =
 
 module _ (read : Reader) (d : ℕ) (s : List ℕ) (counts : Counts) (at n : ℕ) where
   -- the outcome that goes with an opening
-  abbrev on : Open → Out
+  abbrev on : Opened → Out
   on x = on_open x read d s counts at n
 
-  number-open : (o : Checked) (from : ℕ) (k : ℕ → ℕ → Out) (h : ℕ → ℕ → Open) → ((v next : ℕ) → k v next ≡ on (h v next)) → numbered o from k ≡ on (opening o from h)
+  number-open : (o : Checked) (from : ℕ) (k : ℕ → ℕ → Out) (h : ℕ → ℕ → Opened) → ((v next : ℕ) → k v next ≡ on (h v next)) → numbered o from k ≡ on (opening o from h)
   unfolding on_open
   number-open o from k h f = checked-through on o f (λ refusal. refl)
 
-  check-open : (t : Bool) (refusal q : ℕ) (k : Unit {0} → Out) (x : Open) → k tt ≡ on x → check t refusal q k ≡ on (cond t x (Open.Shut refusal q))
+  check-open : (t : Bool) (f : Fault) (k : Unit {0} → Out) (x : Opened) → k tt ≡ on x → check t (number_of f.refusal) f.place k ≡ on (cond t x (Err f))
   unfolding on_open
-  check-open true refusal q k x e = e
-  check-open false refusal q k x e = refl
+  check-open true f k x e = e
+  check-open false f k x e = refl
 
-  wrap-open : (b : ℕ) (p : Place) (from : ℕ) → is_type_place p || is_fn_ptr_method p ≡ true → bind (read counts p from (n + 1)) (λ e m rs. done e m (entry b 0 0 1 at m ∷ rs)) ≡ on (wrapped_of b p from)
+  wrap-open : (b : ℕ) (p : Place) (from : ℕ) → is_type_place p || is_fn_ptr_method p ≡ true → bind (read counts p from (n + 1)) (λ e m rs. done e m (entry b 0 0 1 at m ∷ rs)) ≡ on (Ok (wrapped_of b p from))
   unfolding on_open wrapped_of
   wrap-open b p from t = bind-sealed (read counts p from (n + 1)) (head_of b 0 0 1) at ∙ go (is_type_place p) t
     where
-      go : (u : Bool) → u || is_fn_ptr_method p ≡ true → sealed (read counts p from (n + 1)) (head_of b 0 0 1) at ≡ on (cond u (Open.One (head_of b 0 0 1) p from) (Open.FnPtr (head_of b 0 0 1) from))
+      go : (u : Bool) → u || is_fn_ptr_method p ≡ true → sealed (read counts p from (n + 1)) (head_of b 0 0 1) at ≡ on (Ok (cond u (Open.One (head_of b 0 0 1) p from) (Open.FnPtr (head_of b 0 0 1) from)))
       go true e = refl
       go false e = ap (λ (q : Place). sealed (read counts q from (n + 1)) (head_of b 0 0 1) at) (fn_ptr_method p e)
 
-  list_open : (h : Head) (next : ℕ) → bind (many (read counts Place.Type) h.children next (n + 1)) (λ e m rs. done e m (record_of h at m ∷ rs)) ≡ on (listed_of h next)
+  list_open : (h : Head) (next : ℕ) → bind (many (read counts Place.Type) h.children next (n + 1)) (λ e m rs. done e m (record_of h at m ∷ rs)) ≡ on (Ok (listed_of h next))
   unfolding on_open listed_of
   list_open h next = bind-sealed (many (read counts Place.Type) h.children next (n + 1)) h at ∙ go (eqb h.children 1) (λ e. eqb-true h.children 1 e)
     where
-      go : (t : Bool) → (t ≡ true → h.children ≡ 1) → sealed (many (read counts Place.Type) h.children next (n + 1)) h at ≡ on (cond t (Open.One h Place.Type next) (Open.List h next))
+      go : (t : Bool) → (t ≡ true → h.children ≡ 1) → sealed (many (read counts Place.Type) h.children next (n + 1)) h at ≡ on (Ok (cond t (Open.One h Place.Type next) (Open.List h next)))
       go true f =
           ap (λ (k : ℕ). sealed (many (read counts Place.Type) k next (n + 1)) h at) (f refl)
           ∙ ap (λ (o : Out). sealed o h at) (many-one (read counts Place.Type) next (n + 1))
@@ -148,8 +150,8 @@ module _ (read : Reader) (d : ℕ) (s : List ℕ) (counts : Counts) (at n : ℕ)
   body_open b (Counted p) t = cc
   body_open b Array t = refl
   body_open b Instance t =
-      check-open (ltb (at + 1) (length s)) 2 (at + 1) _ _
-      (check-open (within 0x11 0x12 (get_or s (at + 1) 0)) 5 (at + 1) _ _
+      check-open (ltb (at + 1) (length s)) (fault_at BytesEnd (at + 1)) _ _
+      (check-open (within 0x11 0x12 (get_or s (at + 1) 0)) (fault_at ByteNotAllowed (at + 1)) _ _
       (number-open (token_at type_tags counts s (at + 2)) (at + 2) _ _
       (λ v at₁. number-open (count_at 1 max_number s at₁) at₁ _ _
       (λ c next. list_open (head_of b v (get_or s (at + 1) 0) c) next))))
@@ -198,29 +200,29 @@ module _ (s : List ℕ) (counts : Counts) (p : Place) (at n d : ℕ) where
   unfolding open_at on_open
   node-open t =
       let k = node-opened d s counts p at n in
-      k.1.1 ∙ opened-coded (λ x. on_open x (node (d - 1) s) (d - 1) s counts at n) Open.Shut (λ r q. refl) d s p at n k.0 _
+      k.1.1 ∙ opened-coded (λ x. on_open x (node (d - 1) s) (d - 1) s counts at n) (λ r. refl) d s p at n k.0 _
       (λ h. k.1.0 h _ _ ∙ rw (type_kind p (get_or s at 0) t) (body_open (node (d - 1) s) (d - 1) s counts at n (get_or s at 0) _ (type_form-fits p (get_or s at 0) t)))
 
   pub node-lead : is_type_place p ≡ false → node d s counts p at n ≡ on_lead (lead_at d s p at n) (node (d - 1) s) counts at n
   unfolding lead_at on_lead
   node-lead t =
       let k = node-opened d s counts p at n in
-      k.1.1 ∙ opened-coded (λ x. on_lead x (node (d - 1) s) counts at n) Begun.Shut (λ r q. refl) d s p at n k.0 _
+      k.1.1 ∙ opened-coded (λ x. on_lead x (node (d - 1) s) counts at n) (λ r. refl) d s p at n k.0 _
       (λ h. k.1.0 h _ _ ∙ body-lead (node (d - 1) s) (d - 1) s counts at n (kind_of p (get_or s at 0)) (get_or s at 0) _ (signature_form-fits p (get_or s at 0) t))
 
 -- ---- what an opening says of its children's places
 
-abbrev sorted : Open → Bool
-sorted (Open.Shut refusal q) = true
-sorted (Open.Leaf h next) = true
-sorted (Open.One h q next) = is_type_place q
-sorted (Open.List h next) = true
-sorted (Open.FnPtr h next) = true
-sorted (Open.Array kind) = true
+abbrev sorted : Opened → Bool
+sorted (Err f) = true
+sorted (Ok (Open.Leaf h next)) = true
+sorted (Ok (Open.One h q next)) = is_type_place q
+sorted (Ok (Open.List h next)) = true
+sorted (Ok (Open.FnPtr h next)) = true
+sorted (Ok (Open.Array kind)) = true
 
 abbrev sorted_lead : Begun → Bool
-sorted_lead (Begun.Shut refusal q) = true
-sorted_lead (Begun.Go l) = is_type_place l.first && is_type_place l.rest
+sorted_lead (Err f) = true
+sorted_lead (Ok l) = is_type_place l.first && is_type_place l.rest
 
 cond_test : {A : Type 0} (test : A → Bool) (t : Bool) (x y : A) → test x ≡ true → test y ≡ true → test (cond t x y) ≡ true
 cond_test test true x y f g = f
@@ -234,7 +236,7 @@ head_sorted Named counts s b at t = checked-test sorted (token_at type_tags coun
 head_sorted Variable counts s b at t = checked-test sorted (checked_at s (at + 1)) _ _ (λ v next. refl) (λ r. refl)
 head_sorted (Wrap p) counts s b at t = go (is_type_place p) refl
   where
-    go : (u : Bool) → is_type_place p ≡ u → sorted (cond u (Open.One (head_of b 0 0 1) p (at + 1)) (Open.FnPtr (head_of b 0 0 1) (at + 1))) ≡ true
+    go : (u : Bool) → is_type_place p ≡ u → sorted (Ok (cond u (Open.One (head_of b 0 0 1) p (at + 1)) (Open.FnPtr (head_of b 0 0 1) (at + 1)))) ≡ true
     go true e = e
     go false e = refl
 head_sorted (Modified p) counts s b at t = checked-test sorted (token_at mod_tags counts s (at + 1)) _ _ (λ v next. t) (λ r. refl)
@@ -243,7 +245,7 @@ head_sorted Array counts s b at t = refl
 head_sorted Instance counts s b at t =
     cond_test sorted (ltb (at + 1) (length s)) _ _
     (cond_test sorted (within 0x11 0x12 (get_or s (at + 1) 0)) _ _
-    (checked-test sorted (token_at type_tags counts s (at + 2)) _ _ (λ v at₁. checked-test sorted (count_at 1 max_number s at₁) _ _ (λ c next. cond_test sorted (eqb c 1) _ _ refl refl) (λ r. refl)) (λ r. refl))
+    (checked-test sorted (token_at type_tags counts s (at + 2)) _ _ (λ v at₁. checked-test sorted (count_at 1 max_number s at₁) _ _ (λ c next. cond_test (λ o. sorted (Ok o)) (eqb c 1) _ _ refl refl) (λ r. refl)) (λ r. refl))
     refl)
     refl
 head_sorted (Callable p) counts s b at t = refl
@@ -267,42 +269,42 @@ form-sorted Instance s kind b at t = refl
 form-sorted (Callable p) s kind b at t = call-sorted s p kind 0 b (at + 1) t
 form-sorted (Generic p) s kind b at t = checked-test sorted_lead (count_at 1 max_number s (at + 1)) _ _ (λ g next. call-sorted s p kind g b next t) (λ r. refl)
 
-coded-sorted : {A : Type 0} (test : A → Bool) (d : ℕ) (s : List ℕ) (p : Place) (at n : ℕ) (shut : ℕ → ℕ → A) (x : A) → ((r q : ℕ) → test (shut r q) ≡ true) → test x ≡ true → test (coded d s p at n shut x) ≡ true
-coded-sorted test d s p at n shut x f e =
+coded-sorted : {A : Type 0} (test : Result A Fault → Bool) (d : ℕ) (s : List ℕ) (p : Place) (at n : ℕ) (x : Result A Fault) → ((f : Fault) → test (Err f) ≡ true) → test x ≡ true → test (coded d s p at n x) ≡ true
+coded-sorted test d s p at n x f e =
     cond_test test (ltb at (length s)) _ _
-    (cond_test test (allowed (form_of p (get_or s at 0))) _ _ (cond_test test (leb 1 d) _ _ (cond_test test (ltb n max_nodes) _ _ e (f 10 at)) (f 6 at)) (f 5 at))
-    (f 2 at)
+    (cond_test test (allowed (form_of p (get_or s at 0))) _ _ (cond_test test (leb 1 d) _ _ (cond_test test (ltb n max_nodes) _ _ e (f (fault_at TooManyNodes at))) (f (fault_at TooDeep at))) (f (fault_at ByteNotAllowed at)))
+    (f (fault_at BytesEnd at))
 
-abbrev pub is_shut : Open → Bool
-is_shut (Open.Shut refusal q) = true
-is_shut (Open.Leaf h next) = false
-is_shut (Open.One h q next) = false
-is_shut (Open.List h next) = false
-is_shut (Open.FnPtr h next) = false
-is_shut (Open.Array kind) = false
+abbrev pub is_shut : Opened → Bool
+is_shut (Err f) = true
+is_shut (Ok (Open.Leaf h next)) = false
+is_shut (Ok (Open.One h q next)) = false
+is_shut (Ok (Open.List h next)) = false
+is_shut (Ok (Open.FnPtr h next)) = false
+is_shut (Ok (Open.Array kind)) = false
 
 abbrev is_shut_lead : Begun → Bool
-is_shut_lead (Begun.Shut refusal q) = true
-is_shut_lead (Begun.Go l) = false
+is_shut_lead (Err f) = true
+is_shut_lead (Ok l) = false
 
 module _ (s : List ℕ) (counts : Counts) (p : Place) (at n d : ℕ) where
   -- one that is not refused says that there is a byte, and room for its node
-  pub open_begins : (o : Open) → open_at d counts s p at n ≡ o → is_shut o ≡ false → (0 < d) × (at < length s) × (n < max_nodes)
+  pub open_begins : (o : Opened) → open_at d counts s p at n ≡ o → is_shut o ≡ false → (0 < d) × (at < length s) × (n < max_nodes)
   unfolding open_at
-  open_begins o e f = coded-begins d s p at n Open.Shut _ is_shut (λ r q. refl) (ap is_shut e ∙ f)
+  open_begins o e f = coded-begins d s p at n _ is_shut (λ r. refl) (ap is_shut e ∙ f)
 
-  pub open_one : is_type_place p ≡ true → {h : Head} {q : Place} {next : ℕ} → open_at d counts s p at n ≡ Open.One h q next → is_type_place q ≡ true
+  pub open_one : is_type_place p ≡ true → {h : Head} {q : Place} {next : ℕ} → open_at d counts s p at n ≡ Ok (Open.One h q next) → is_type_place q ≡ true
   unfolding open_at
-  open_one t e = sym (ap sorted e) ∙ coded-sorted sorted d s p at n Open.Shut _ (λ r q. refl) (head_sorted (form_of p (get_or s at 0)) counts s (get_or s at 0) at (type_form-fits p (get_or s at 0) t))
+  open_one t e = sym (ap sorted e) ∙ coded-sorted sorted d s p at n _ (λ r. refl) (head_sorted (form_of p (get_or s at 0)) counts s (get_or s at 0) at (type_form-fits p (get_or s at 0) t))
 
 module _ (s : List ℕ) (p : Place) (at n d : ℕ) where
-  pub lead-begins : {l : Lead} → lead_at d s p at n ≡ Begun.Go l → (0 < d) × (at < length s) × (n < max_nodes)
+  pub lead-begins : {l : Lead} → lead_at d s p at n ≡ Ok l → (0 < d) × (at < length s) × (n < max_nodes)
   unfolding lead_at
-  lead-begins e = coded-begins d s p at n Begun.Shut _ is_shut_lead (λ r q. refl) (ap is_shut_lead e)
+  lead-begins e = coded-begins d s p at n _ is_shut_lead (λ r. refl) (ap is_shut_lead e)
 
-  pub lead-types : is_type_place p ≡ false → {l : Lead} → lead_at d s p at n ≡ Begun.Go l → (is_type_place l.first ≡ true) × (is_type_place l.rest ≡ true)
+  pub lead-types : is_type_place p ≡ false → {l : Lead} → lead_at d s p at n ≡ Ok l → (is_type_place l.first ≡ true) × (is_type_place l.rest ≡ true)
   unfolding lead_at
   lead-types t {l} e =
       let h = sym (ap sorted_lead e)
-      ∙ coded-sorted sorted_lead d s p at n Begun.Shut _ (λ r q. refl) (form-sorted (form_of p (get_or s at 0)) s (kind_of p (get_or s at 0)) (get_or s at 0) at (signature_form-fits p (get_or s at 0) t)) in
+      ∙ coded-sorted sorted_lead d s p at n _ (λ r. refl) (form-sorted (form_of p (get_or s at 0)) s (kind_of p (get_or s at 0)) (get_or s at 0) at (signature_form-fits p (get_or s at 0) t)) in
       (both_left _ _ h, both_right (is_type_place l.first) _ h)

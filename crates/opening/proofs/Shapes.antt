@@ -3,31 +3,31 @@
 use Prim.Native.Nat.{ℕ, ◌+◌, ◌≤◌, ◌<◌}
 use native.Mathlib.Omega.{arith}
 use mathlib.Core.Path.{◌≡◌, refl, sym, ap, subst, ◌∙◌}
-use mathlib.Core.Bool.{Bool, true, false, cond}
 use mathlib.Core.List.{List, [], ◌∷◌, ◌++◌, append_assoc}
 use lib.ListN.{length, length-append}
-use lib.Dec.{eqb}
 use borrow.Author.Tests.{lt-ltb, le-ltb, le-leb}
-use Rattle.number.specs.Checked.{count_at}
-use Rattle.number.specs.declared.checked.Checked.{Checked}
-use Rattle.number.specs.declared.checked.Checked.TheVariants.{Good, Bad}
+use Rattle.number.specs.Checked.{Checked, checked_at, count_at}
+use Rattle.std.specs.Prelude.{Result, Ok, Err}
+use Rattle.answer.specs.Refusal.{number_of, fault_at}
+use Rattle.answer.specs.declared.refusal.Fault.{Fault}
+use Rattle.answer.specs.declared.refusal.Refusal.{Refusal}
+use Rattle.number.specs.Number.{found}
 use Rattle.number.specs.declared.token.Counts.{Counts}
 use Rattle.number.proofs.Checks.{checked-through}
 use Rattle.element.specs.declared.Place.TheVariants as Place
 use Rattle.grammar.specs.Limits.{max_nodes, max_rank}
-use Rattle.grammar.specs.Table.{entry, SIZE}
+use Rattle.grammar.specs.Table.{entry}
 use Rattle.grammar.specs.Judge.{Out, fault, done, bind, numbered, many, bound, size, low, Reader, array}
 use Rattle.grammar.specs.declared.Node.{Node}
 use Rattle.grammar.proofs.Sound.{Holds, holds}
-use Rattle.grammar.proofs.Bounds.{Ends, ends-size, ends_low}
+use Rattle.grammar.proofs.Bounds.{Ends, ends-bound}
 use Rattle.opening.specs.Open.{head_of}
 use Rattle.opening.specs.Means.{record_of, sealed}
 use Rattle.opening.specs.Table.{put_of, stamp, seals_of, Sealed}
 use Rattle.opening.specs.Walk.{leaves, walk_of, Walked}
-use Rattle.opening.specs.Shape.{bound_at, lows_at, shape_at, sealing, Shaped}
+use Rattle.opening.specs.Shape.{shape, bound_at, lows_at, shape_at, sealing, Shaped}
 use Rattle.opening.specs.declared.Head.{Head}
-use Rattle.opening.specs.declared.Walk.{Walk}
-use Rattle.opening.specs.declared.Walk.TheVariants.{Next, Stop}
+use Rattle.opening.specs.End.{Walk, Next, Stop}
 use Rattle.opening.specs.declared.shape.Shape.{Shape}
 use Rattle.opening.proofs.Stamp.{length_stamp, stamp-append}
 use Rattle.opening.proofs.Walks.{clash, walked_fault, walked_is, still, walked_seal}
@@ -35,66 +35,63 @@ use Rattle.opening.proofs.Walks.{clash, walked_fault, walked_is, still, walked_s
 -- ---- bound_of
 
 module _ (kind d v next at n : ℕ) where
-  pub bound-deep : (o : List ℕ) → d ≡ 0 → Walked (bound kind d (Good v next) at n) n (Stop 6 at) o o
+  pub bound-deep : (o : List ℕ) → d ≡ 0 → Walked (bound kind d (found v next) at n) n (Stop 6 at) o o
   bound-deep o z = walked_fault _ n 6 at o (rw z)
 
-  pub bound-full : (o : List ℕ) → (d ≡ 0 → ⊥) → max_nodes ≤ n → Walked (bound kind d (Good v next) at n) n (Stop 10 at) o o
+  pub bound-full : (o : List ℕ) → (d ≡ 0 → ⊥) → max_nodes ≤ n → Walked (bound kind d (found v next) at n) n (Stop 10 at) o o
   bound-full o z j = let i : 1 ≤ d = omega arith in walked_fault _ n 10 at o (rw (le-leb 1 d i, le-ltb n max_nodes j))
 
-  pub bound-done : (r : Walk) (o o₁ : List ℕ) → (d ≡ 0 → ⊥) → n < max_nodes → Sealed (Next next (n + 1)) n (head_of kind v 0 0) at r o o₁ → Walked (bound kind d (Good v next) at n) n r o o₁
+  pub bound-done : (r : Walk) (o o₁ : List ℕ) → (d ≡ 0 → ⊥) → n < max_nodes → Sealed (Next next (n + 1)) n (head_of kind v 0 0) at r o o₁ → Walked (bound kind d (found v next) at n) n r o o₁
   unfolding sealed
   bound-done r o o₁ z j q =
       let i : 1 ≤ d = omega arith in
       walked_is _ (sealed (done next (n + 1) []) (head_of kind v 0 0) at) n r o o₁ (rw (le-leb 1 d i, lt-ltb n max_nodes j))
       (walked_seal _ n _ at _ r o o o₁ (still next (n + 1) (n + 1) o) q)
 
--- ---- size_at and low_at. y is what reading the number gave, and its contract says that it is x
+-- ---- bound_at. y is what reading the number gave, and its contract says that it is x
 
 module _ (kind d at n : ℕ) (y x : Checked) (e : y ≡ x) where
-  pub bound-bad : (c : ℕ) (o : List ℕ) → y ≡ Bad c → Walked (bound kind d x at n) n (Stop c at) o o
-  bound-bad c o g = walked_fault _ n c at o (rw (sym e ∙ g))
+  pub bound-bad : (c : Refusal) (o : List ℕ) → y ≡ Err c → Walked (bound kind d x at n) n (Stop (number_of c) at) o o
+  bound-bad c o g = walked_fault _ n (number_of c) at o (rw (sym e ∙ g))
 
-  pub bound-good : (v next : ℕ) (r : Walk) (o o₁ : List ℕ) → y ≡ Good v next → Walked (bound kind d (Good v next) at n) n r o o₁ → Walked (bound kind d x at n) n r o o₁
+  pub bound-good : (v next : ℕ) (r : Walk) (o o₁ : List ℕ) → y ≡ found v next → Walked (bound kind d (found v next) at n) n r o o₁ → Walked (bound kind d x at n) n r o o₁
   bound-good v next r o o₁ g w = walked_is _ _ n r o o₁ (ap (λ (c : Checked). bound kind d c at n) (sym e ∙ g)) w
 
--- ---- bounds_at
-
 pub ends-bound_at : (kind d : ℕ) (s : List ℕ) (at n : ℕ) → Holds (Ends n) (bound_at kind d s at n)
-unfolding bound_at
-ends-bound_at kind d s at n = go (eqb kind SIZE)
-  where
-    go : (t : Bool) → Holds (Ends n) (cond t (size d s at n) (low d s at n))
-    go true = ends-size s d at n
-    go false = ends_low s d at n
+ends-bound_at kind d s at n = ends-bound kind d (checked_at s at) at n
 
 -- ---- shape_at and lows_at
 
 -- a refusal leaves the table's length
-shaped_fault : (m c p : ℕ) (o o₁ : List ℕ) → length o₁ ≡ length o → Shaped (λ at rs. fault c p) m (Shape.Stop c p) o o₁
+shaped_fault : (m : ℕ) (f : Fault) (o o₁ : List ℕ) → length o₁ ≡ length o → Shaped (λ at rs. fault (number_of f.refusal) f.place) m (Err f) o o₁
 unfolding sealing walk_of leaves
-shaped_fault m c p o o₁ h at n rs table a b = record { result = refl; left = h ∙ ap length b ∙ length_stamp rs (n + 1) table }
+shaped_fault m f o o₁ h at n rs table a b = record { result = refl; left = h ∙ ap length b ∙ length_stamp rs (n + 1) table }
+
+-- the result by another name
+pub shaped_as : (k : ℕ → List Node → Out) (m : ℕ) {r r' : Result Shape Fault} (o o₁ : List ℕ) → r ≡ r' → Shaped k m r' o o₁ → Shaped k m r o o₁
+shaped_as k m o o₁ e h = subst (λ (x : Result Shape Fault). Shaped k m x o o₁) (sym e) h
 
 -- y is what reading a number gave, and its contract says that it is x
 module _ (y x : Checked) (e : y ≡ x) (m from : ℕ) (k : ℕ → List Node → ℕ → ℕ → Out) where
-  pub shape_bad : (c : ℕ) (o : List ℕ) → y ≡ Bad c → Shaped (λ at rs. numbered x from (k at rs)) m (Shape.Stop c from) o o
-  shape_bad c o g = rw (sym e ∙ g) (shaped_fault m c from o o refl)
+  pub shape_bad : (c : Refusal) (o : List ℕ) → y ≡ Err c → Shaped (λ at rs. numbered x from (k at rs)) m (Err (fault_at c from)) o o
+  shape_bad c o g = rw (sym e ∙ g) (shaped_fault m (fault_at c from) o o refl)
 
-  pub shape_good : (v next : ℕ) (r : Shape) (o o₁ : List ℕ) → y ≡ Good v next → Shaped (λ at rs. k at rs v next) m r o o₁ → Shaped (λ at rs. numbered x from (k at rs)) m r o o₁
+  pub shape_good : (v next : ℕ) (r : Result Shape Fault) (o o₁ : List ℕ) → y ≡ found v next → Shaped (λ at rs. k at rs v next) m r o o₁ → Shaped (λ at rs. numbered x from (k at rs)) m r o o₁
   shape_good v next r o o₁ g h = rw (sym e ∙ g) h
 
 -- w is what walking over the SIZEs or the LOWs gave
 module _ (m : ℕ) (w : Walk) (o o₁ : List ℕ) where
-  pub shape_stop : (q : Out) (k : ℕ → List Node → ℕ → ℕ → List Node → Out) → Walked q m w o o₁ → (c p : ℕ) → w ≡ Stop c p → Shaped (λ at rs. bind q (k at rs)) m (Shape.Stop c p) o o₁
+  pub shape_stop : (q : Out) (k : ℕ → List Node → ℕ → ℕ → List Node → Out) → Walked q m w o o₁ → (f : Fault) → w ≡ Stop (number_of f.refusal) f.place → Shaped (λ at rs. bind q (k at rs)) m (Err f) o o₁
   unfolding walk_of leaves
-  shape_stop (fault c' p') k x c p g =
-      let z : Stop c p ≡ Stop c' p' = sym g ∙ x.result in
-      let u : c ≡ c' = cc in
-      let v : p ≡ p' = cc in
-      rw (u, v) (shaped_fault m c' p' o o₁ x.left)
-  shape_stop (done e i ss) k x c p g = clash (sym g ∙ x.result)
+  shape_stop (fault c p) k x f g =
+      let z : Stop (number_of f.refusal) f.place ≡ Stop c p = sym g ∙ x.result in
+      let u : number_of f.refusal ≡ c = cc in
+      let v : f.place ≡ p = cc in
+      rw (← u, ← v) (shaped_fault m f o o₁ x.left)
+  shape_stop (done e i ss) k x f g = clash (sym g ∙ x.result)
 
   -- they stand in the table behind the records before them
-  pub shape_then : (q : Out) (k : ℕ → ℕ → ℕ → List Node → Out) → Holds (Ends m) q → Walked q m w o o₁ → (e i : ℕ) → w ≡ Next e i → (r : Shape) (o₂ : List ℕ) → Shaped (k e i) i r o₁ o₂
+  pub shape_then : (q : Out) (k : ℕ → ℕ → ℕ → List Node → Out) → Holds (Ends m) q → Walked q m w o o₁ → (e i : ℕ) → w ≡ Next e i → (r : Result Shape Fault) (o₂ : List ℕ) → Shaped (k e i) i r o₁ o₂
       → Shaped (λ at rs. bind q (λ e i ss. k e i at (rs ++ ss))) m r o o₂
   unfolding walk_of leaves
   shape_then (fault c p) k h x e i g r o₂ y = clash (sym x.result ∙ g)
@@ -109,7 +106,7 @@ module _ (m : ℕ) (w : Walk) (o o₁ : List ℕ) where
 
   -- the last of them, with which the array's own numbers are known
   pub shape_done : (q : Out) (h : Head) → Holds (Ends m) q → Walked q m w o o₁ → (e i : ℕ) → w ≡ Next e i
-      → Shaped (λ at rs. bind q (λ e i ls. done e i (record_of h at i ∷ (rs ++ ls)))) m (Shape.Done h e i) o o₁
+      → Shaped (λ at rs. bind q (λ e i ls. done e i (record_of h at i ∷ (rs ++ ls)))) m (Ok (shape h e i)) o o₁
   unfolding sealing walk_of leaves seals_of stamp
   shape_done (fault c p) h f x e i g = clash (sym x.result ∙ g)
   shape_done (done e₁ i₁ ls) h (holds f) x e i g =
@@ -131,7 +128,7 @@ module _ (k : ℕ → ℕ → ℕ → List Node → Out) (at n : ℕ) (w : Walk)
   typed_stop (fault c' p') x c p g = record { result = sym g ∙ x.result; left = x.left }
   typed_stop (done e m ts) x c p g = clash (sym g ∙ x.result)
 
-  pub typed_shape : (q : Out) → Holds (Ends (n + 1)) q → Walked q (n + 1) w o o₁ → (e m : ℕ) → w ≡ Next e m → (t : Shape) (o₂ : List ℕ) → Shaped (k e m) m t o₁ o₂
+  pub typed_shape : (q : Out) → Holds (Ends (n + 1)) q → Walked q (n + 1) w o o₁ → (e m : ℕ) → w ≡ Next e m → (t : Result Shape Fault) (o₂ : List ℕ) → Shaped (k e m) m t o₁ o₂
       → sealing (bind q (λ e m. k e m at)) n at t o o₂
   unfolding walk_of leaves
   typed_shape (fault c p) h x e m g t o₂ y = clash (sym x.result ∙ g)

@@ -14,8 +14,7 @@ use Rattle.opening.specs.Means.{record_of, sealed, and_then, series}
 use Rattle.opening.specs.Table.{put_of, stamp, small_of, seals_of, Sealed}
 use Rattle.opening.specs.Walk.{leaves, walk_of, Walked}
 use Rattle.opening.specs.declared.Head.{Head}
-use Rattle.opening.specs.declared.Walk.{Walk}
-use Rattle.opening.specs.declared.Walk.TheVariants.{Next, Stop}
+use Rattle.opening.specs.End.{Walk, Next, Stop}
 use Rattle.opening.proofs.Opens.{series-more, series-same}
 use Rattle.opening.proofs.Stamp.{length_stamp, stamp-append}
 
@@ -25,12 +24,10 @@ clash q = let z : ◌≡◌ {A = ℕ} 0 1 = cc in absurd (omega arith)
 
 -- ---- seal
 
-pub seal_small : (w : Walk) (e m : ℕ) → small_of w → w ≡ Next e m → m ≤ max_nodes
-seal_small w e m h g = subst small_of g h
-
-pub seal_stored : (w : Walk) (n : ℕ) (h : Head) (at e m at' m' : ℕ) (o o' : List ℕ) → w ≡ Next e m → at' ≡ at → m' ≡ m → o' ≡ put_of o n (record_of h at' m') → Sealed w n h at (Next e m) o o'
+-- the record of a node whose children are read, e and m where they end
+pub seal_put : (n : ℕ) (h : Head) (at e m : ℕ) {o o' : List ℕ} → o' ≡ put_of o n (record_of h at m) → Sealed (Next e m) n h at (Next e m) o o'
 unfolding seals_of
-seal_stored w n h at e m at' m' o o' g i k p = record { result = sym g; left = rw (g, ← i, ← k) p }
+seal_put n h at e m p = record { result = refl; left = p }
 
 pub seal_kept : (w : Walk) (n : ℕ) (h : Head) (at c p : ℕ) (o : List ℕ) → w ≡ Stop c p → Sealed w n h at (Stop c p) o o
 unfolding seals_of

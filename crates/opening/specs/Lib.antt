@@ -1,3 +1,4 @@
+pub mod End
 pub mod Code
 pub mod Open
 pub mod Lead

@@ -1,5 +1,5 @@
 -- What an opening means for the grammar: the judge's outcome that goes with it. Internal: an auditor goes by the judge.
-use Rattle.std.specs.Prelude.{ℕ, zero, suc, ◌+◌, List, [], ◌∷◌, ◌++◌}
+use Rattle.std.specs.Prelude.{ℕ, zero, suc, ◌+◌, List, [], ◌∷◌, ◌++◌, Ok, Err}
 use Rattle.number.specs.declared.token.Counts.{Counts}
 use Rattle.element.specs.declared.Place.TheVariants as Place
 use Rattle.grammar.specs.Table.{entry}
@@ -7,9 +7,10 @@ use Rattle.grammar.specs.Judge.{Out, fault, done, bind, many, Reader, array}
 use Rattle.grammar.specs.declared.Node.{Node}
 use Rattle.opening.specs.declared.Head.{Head}
 use Rattle.opening.specs.declared.signatures.Lead.{Lead}
-use Rattle.opening.specs.declared.signatures.Begun.{Begun}
 use Rattle.opening.specs.declared.types.Open.{Open}
-use Rattle.opening.specs.Open.{head_of}
+use Rattle.answer.specs.Refusal.{number_of}
+use Rattle.opening.specs.Lead.{Begun}
+use Rattle.opening.specs.Open.{Opened, head_of}
 
 -- the record of a node at `at`, where `after` is the index after its subtree
 abbrev pub record_of : Head → (at after : ℕ) → Node
@@ -41,13 +42,13 @@ signature_of read counts l at n =
     (λ items o. sealed o (head_of l.kind l.a l.b items) at)
 
 unfoldable pub on_lead : Begun → Reader → Counts → (at n : ℕ) → Out
-on_lead (Begun.Shut refusal q) read counts at n = fault refusal q
-on_lead (Begun.Go l) read counts at n = signature_of read counts l at n
+on_lead (Err f) read counts at n = fault (number_of f.refusal) f.place
+on_lead (Ok l) read counts at n = signature_of read counts l at n
 
-unfoldable pub on_open : Open → Reader → (d : ℕ) → List ℕ → Counts → (at n : ℕ) → Out
-on_open (Open.Shut refusal q) read d s counts at n = fault refusal q
-on_open (Open.Leaf h next) read d s counts at n = sealed (done next (n + 1) []) h at
-on_open (Open.One h p next) read d s counts at n = sealed (read counts p next (n + 1)) h at
-on_open (Open.List h next) read d s counts at n = sealed (many (read counts Place.Type) h.children next (n + 1)) h at
-on_open (Open.FnPtr h next) read d s counts at n = sealed (read counts Place.FnPtrMethod next (n + 1)) h at
-on_open (Open.Array kind) read d s counts at n = array read d s counts kind at n
+unfoldable pub on_open : Opened → Reader → (d : ℕ) → List ℕ → Counts → (at n : ℕ) → Out
+on_open (Err f) read d s counts at n = fault (number_of f.refusal) f.place
+on_open (Ok (Open.Leaf h next)) read d s counts at n = sealed (done next (n + 1) []) h at
+on_open (Ok (Open.One h p next)) read d s counts at n = sealed (read counts p next (n + 1)) h at
+on_open (Ok (Open.List h next)) read d s counts at n = sealed (many (read counts Place.Type) h.children next (n + 1)) h at
+on_open (Ok (Open.FnPtr h next)) read d s counts at n = sealed (read counts Place.FnPtrMethod next (n + 1)) h at
+on_open (Ok (Open.Array kind)) read d s counts at n = array read d s counts kind at n

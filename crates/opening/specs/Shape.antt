@@ -1,19 +1,22 @@
 -- An array behind its type, as definitions. Internal: an auditor goes by the judge, and that they mean the same is `array_shape` (proofs/Shapes.antt).
-use Rattle.std.specs.Prelude.{ℕ, ◌+◌, ◌≤◌, ◌≡◌, cond, List, ◌∷◌, ◌++◌, length, eqb}
+use Rattle.std.specs.Prelude.{ℕ, ◌+◌, ◌≤◌, ◌≡◌, List, ◌∷◌, ◌++◌, length, Result, Ok, Err}
 use Rattle.grammar.specs.Limits.{max_nodes, max_rank}
-use Rattle.grammar.specs.Table.{SIZE}
-use Rattle.grammar.specs.Judge.{Out, done, bind, count, many, size, low}
+use Rattle.grammar.specs.Judge.{Out, done, bind, bound, count, many, size, low}
 use Rattle.grammar.specs.declared.Node.{Node}
 use Rattle.opening.specs.Open.{head_of}
 use Rattle.opening.specs.Means.{record_of}
 use Rattle.opening.specs.Table.{stamp, Sealed}
 use Rattle.opening.specs.Walk.{Walked}
-use Rattle.opening.specs.declared.Walk.{Walk}
+use Rattle.answer.specs.Refusal.{number_of}
+use Rattle.answer.specs.declared.refusal.Fault.{Fault}
+use Rattle.number.specs.Checked.{checked_at}
+use Rattle.opening.specs.End.{Walk, Next, Stop}
+use Rattle.opening.specs.declared.Head.{Head}
 use Rattle.opening.specs.declared.shape.Shape.{Shape}
 
 -- a SIZE node or a LOW node
-unfoldable pub bound_at : (kind d : ℕ) → List ℕ → (at n : ℕ) → Out
-bound_at kind d s at n = cond (eqb kind SIZE) (size d s at n) (low d s at n)
+abbrev pub bound_at : (kind d : ℕ) → List ℕ → (at n : ℕ) → Out
+bound_at kind d s at n = bound kind d (checked_at s at) at n
 
 -- the array at `at` from NumLoBounds on, which stands at `from`: the low bounds, the first with index n. rs are the records of its type and its sizes
 unfoldable pub lows_at : (d : ℕ) → List ℕ → (kind rank sizes from n at : ℕ) → List Node → Out
@@ -30,12 +33,15 @@ shape_at d s kind from n at rs =
     (λ sizes at₃. bind (many (size d s) sizes at₃ n)
     (λ e m ss. lows_at d s kind rank sizes e m at (rs ++ ss))))
 
+abbrev pub shape : Head → (at node : ℕ) → Shape
+shape h at node = record { head = h; end = record { at = at; node = node } }
+
 -- the outcome o of an array: its shape is refused; or it is walked over once its own record is put
-unfoldable pub sealing : Out → (n at : ℕ) → Shape → (table after : List ℕ) → Type 0
-sealing o n at (Shape.Stop refusal q) table after = Walked o n (Walk.Stop refusal q) table after
-sealing o n at (Shape.Done h e m) table after = (m ≤ max_nodes) × ((r : Walk) (fin : List ℕ) → Sealed (Walk.Next e m) n h at r after fin → Walked o n r table fin)
+unfoldable pub sealing : Out → (n at : ℕ) → Result Shape Fault → (table after : List ℕ) → Type 0
+sealing o n at (Err f) table after = Walked o n (Stop (number_of f.refusal) f.place) table after
+sealing o n at (Ok x) table after = (x.end.node ≤ max_nodes) × ((r : Walk) (fin : List ℕ) → Sealed (Next x.end.at x.end.node) n x.head at r after fin → Walked o n r table fin)
 
 -- whichever array it is, with whatever records rs of its type, which stand in the table from behind its own index up to m; so nothing is said of
 -- index 0, where no array's shape begins, nor of an array's record that does not fit
-abbrev pub Shaped : ((at : ℕ) → List Node → Out) → (m : ℕ) → Shape → (before after : List ℕ) → Type 0
+abbrev pub Shaped : ((at : ℕ) → List Node → Out) → (m : ℕ) → Result Shape Fault → (before after : List ℕ) → Type 0
 Shaped o m r before after = (at n : ℕ) (rs : List Node) (table : List ℕ) → m ≡ n + 1 + length rs → before ≡ stamp (n + 1) rs table → sealing (o at rs) n at r table after

@@ -6,7 +6,7 @@ use Rattle.grammar.specs.Table.{six}
 use Rattle.grammar.specs.declared.Node.{Node}
 use Rattle.opening.specs.Means.{record_of}
 use Rattle.opening.specs.declared.Head.{Head}
-use Rattle.opening.specs.declared.Walk.{Walk}
+use Rattle.opening.specs.End.{Walk, Next, Stop}
 
 -- a record's six numbers at its index, where they fit
 unfoldable pub put_of : List ℕ → ℕ → Node → List ℕ
@@ -29,12 +29,12 @@ stamp n (r ∷ rs) o = put_of (stamp (n + 1) rs o) n r
 -- ---- the record of a node whose children are read
 
 abbrev pub small_of : Walk → Type 0
-small_of (Walk.Next at m) = m ≤ max_nodes
-small_of (Walk.Stop refusal at) = Unit {0}
+small_of (Next at m) = m ≤ max_nodes
+small_of (Stop refusal at) = Unit {0}
 
 unfoldable pub seals_of : Walk → ℕ → Head → ℕ → List ℕ → List ℕ
-seals_of (Walk.Next e m) n h at o = put_of o n (record_of h at m)
-seals_of (Walk.Stop refusal q) n h at o = o
+seals_of (Next e m) n h at o = put_of o n (record_of h at m)
+seals_of (Stop refusal q) n h at o = o
 
 pub record Sealed (w : Walk) (n : ℕ) (h : Head) (at : ℕ) (r : Walk) (before after : List ℕ) : Type 0 where
   pub result : r ≡ w

@@ -3,11 +3,13 @@
 #![tactic(auto)]
 
 ghost use Rattle.std.specs.Prelude.{◌≡◌};
-ghost use Rattle.opening.specs.Code.{crowded_of, code_at};
+ghost use Rattle.opening.specs.Code.{placed, crowded_of, code_at};
 ghost use Rattle.opening.specs.Open.{head_of};
 
+use answer::refusal::{Fault, Refusal};
 use element::Place;
 use grammar::MAX_NODES;
+use number::Number;
 
 pub mod shape;
 pub mod signatures;
@@ -15,7 +17,7 @@ pub mod table;
 pub mod types;
 
 // A node's own numbers: its record's, but for the offset and the index after it.
-#[derive(Clone, Copy)]
+#[derive(Clone, Copy, Debug, PartialEq, Eq)]
 pub struct Head {
     pub kind: u32,
     pub a: u32,
@@ -34,47 +36,44 @@ pub fn head_of(kind: u32, a: u32, b: u32, children: u32) -> Head
     }
 }
 
-// Where a walk goes on, with the index of the next node; or the refusal's number and offset.
-#[derive(Clone, Copy)]
-pub enum Walk {
-    Next { at: usize, node: usize },
-    Stop { refusal: u32, at: usize },
+// Where a walk stands: an offset, and the index of the next node.
+#[derive(Clone, Copy, Debug, PartialEq, Eq)]
+pub struct Position {
+    pub at: usize,
+    pub node: usize,
 }
 
-// A node's code byte, allowed or not, where there is room for the node; or a refusal's number.
-#[derive(Clone, Copy)]
-pub enum Code {
-    Shut { refusal: u32 },
-    Byte { byte: u8 },
+// What was read at `from`, its refusal with that place.
+fn placed(read: Result<Number, Refusal>, from: usize) -> Result<Number, Fault>
+    ensures { result ≡ placed read from }
+{
+    read.map_err(|refusal| refusal.at(from))
 }
 
-// The refusal of a code byte for which there is no room: 5 where the byte is refused, else this number.
-fn crowded(place: Place, byte: u8, refusal: u32) -> u32
+// The refusal of a code byte for which there is no room: 5 where the byte is refused, else this one.
+fn crowded(place: Place, byte: u8, refusal: Refusal) -> Refusal
     ensures { result ≡ crowded_of place byte refusal }
 {
     if element::allows(place, byte) {
-        return refusal;
+        refusal
+    } else {
+        Refusal::ByteNotAllowed
     }
-    5
 }
 
-// The code byte of a node, for which d levels are left. The room is looked at before the byte, for speed: both tests are rare.
-fn code_at(src: &[u8], place: Place, at: usize, n: usize, d: usize) -> Code
+// The code byte of a node, for which d levels are left, allowed or not. The room is looked at before the byte, for speed: both tests are rare.
+fn code_at(src: &[u8], place: Place, at: usize, n: usize, d: usize) -> Result<u8, Fault>
     ensures { result ≡ code_at d src.now place at n }
 {
     if src.len() <= at {
-        return Code::Shut { refusal: 2 };
+        return Err(Refusal::BytesEnd.at(at));
     }
     let byte = src[at];
     if d == 0 {
-        return Code::Shut {
-            refusal: crowded(place, byte, 6),
-        };
+        return Err(crowded(place, byte, Refusal::TooDeep).at(at));
     }
     if MAX_NODES <= n {
-        return Code::Shut {
-            refusal: crowded(place, byte, 10),
-        };
+        return Err(crowded(place, byte, Refusal::TooManyNodes).at(at));
     }
-    Code::Byte { byte }
+    Ok(byte)
 }

@@ -1,21 +1,24 @@
 // What stands behind an array's type: Rank, the sizes and the low bounds, which give the array's own numbers.
 ghost use Rattle.std.specs.Prelude.{◌≤◌, length};
-ghost use Rattle.grammar.specs.Limits.{max_bytes, max_nodes, max_rank};
-ghost use Rattle.grammar.specs.Judge.{bound, size, low, many};
-ghost use Rattle.number.specs.declared.checked.Checked.TheVariants as Checked;
+ghost use Rattle.grammar.specs.Limits.{max_bytes, max_nodes};
+ghost use Rattle.grammar.specs.Judge.{bound, many};
+ghost use Rattle.number.specs.Number.{found};
+ghost use Rattle.opening.specs.End.{ended};
 ghost use Rattle.opening.specs.Walk.{Walked};
-ghost use Rattle.opening.specs.Shape.{bound_at, lows_at, shape_at, Shaped};
+ghost use Rattle.opening.specs.Shape.{bound_at, shape_at, Shaped};
 
-use crate::table::childless;
-use crate::{Head, Walk, head_of};
+use crate::table::seal;
+use crate::{Head, Position, head_of, placed};
+use answer::refusal::{Fault, Refusal};
 use grammar::{LOW, MAX_NODES, MAX_RANK, SIZE};
-use number::checked::{Checked, checked_at, count_at};
+use number::Number;
+use number::checked::{checked_at, count_at};
 
-// What an array's shape gives: the array's own numbers and where the walk goes on, or the refusal's number and offset.
-#[derive(Clone, Copy)]
-pub enum Shape {
-    Done { head: Head, at: usize, node: usize },
-    Stop { refusal: u32, at: usize },
+// What an array's shape gives: the array's own numbers and where the walk goes on.
+#[derive(Clone, Copy, Debug, PartialEq, Eq)]
+pub struct Shape {
+    pub head: Head,
+    pub end: Position,
 }
 
 // A node that is a number alone, which was read at `at`.
@@ -23,52 +26,40 @@ fn bound_of(
     out: &mut [u32],
     d: usize,
     kind: u32,
-    value: u32,
-    next: usize,
+    number: Number,
     at: usize,
     n: usize,
-) -> Walk
+) -> Result<Position, Fault>
     requires { at ≤ max_bytes }
-    ensures { Walked (bound kind d (Checked.Good value next) at n) n result out.old out.new }
+    ensures { Walked (bound kind d (found number.value number.next) at n) n (ended result) out.old out.new }
 {
     if d == 0 {
-        return Walk::Stop { refusal: 6, at };
+        return Err(Refusal::TooDeep.at(at));
     }
     if MAX_NODES <= n {
-        return Walk::Stop { refusal: 10, at };
+        return Err(Refusal::TooManyNodes.at(at));
     }
-    childless(out, n, head_of(kind, value, 0, 0), at, next)
-}
-
-fn size_at(out: &mut [u32], d: usize, src: &[u8], at: usize, n: usize) -> Walk
-    requires { length src.now ≤ max_bytes }
-    ensures { Walked (size d src.now at n) n result out.old out.new }
-{
-    match checked_at(src, at) {
-        Checked::Good { value, next } => bound_of(out, d, SIZE, value, next, at, n),
-        Checked::Bad { refusal } => Walk::Stop { refusal, at },
-    }
-}
-
-fn low_at(out: &mut [u32], d: usize, src: &[u8], at: usize, n: usize) -> Walk
-    requires { length src.now ≤ max_bytes }
-    ensures { Walked (low d src.now at n) n result out.old out.new }
-{
-    match checked_at(src, at) {
-        Checked::Good { value, next } => bound_of(out, d, LOW, value, next, at, n),
-        Checked::Bad { refusal } => Walk::Stop { refusal, at },
-    }
+    seal(out, n, head_of(kind, number.value, 0, 0), at, n + 1);
+    Ok(Position {
+        at: number.next,
+        node: n + 1,
+    })
 }
 
 // A SIZE or a LOW node.
-fn bound_at(out: &mut [u32], d: usize, src: &[u8], kind: u32, at: usize, n: usize) -> Walk
+fn bound_at(
+    out: &mut [u32],
+    d: usize,
+    src: &[u8],
+    kind: u32,
+    at: usize,
+    n: usize,
+) -> Result<Position, Fault>
     requires { length src.now ≤ max_bytes }
-    ensures { Walked (bound_at kind d src.now at n) n result out.old out.new }
+    ensures { Walked (bound_at kind d src.now at n) n (ended result) out.old out.new }
 {
-    if kind == SIZE {
-        return size_at(out, d, &*src, at, n);
-    }
-    low_at(out, d, &*src, at, n)
+    let number = placed(checked_at(src, at), at)?;
+    bound_of(out, d, kind, number, at, n)
 }
 
 // `count` such nodes, one after the other.
@@ -80,77 +71,37 @@ fn bounds_at(
     count: u32,
     at: usize,
     n: usize,
-) -> Walk
+) -> Result<Position, Fault>
     requires { length src.now ≤ max_bytes }
-    ensures { Walked (many (bound_at kind d src.now) count at n) n result out.old out.new }
+    ensures { Walked (many (bound_at kind d src.now) count at n) n (ended result) out.old out.new }
 {
-    let mut left = count;
-    let mut e = at;
-    let mut m = n;
-    while 0 < left {
-        match bound_at(out, d, &*src, kind, e, m) {
-            Walk::Next { at: e2, node: m2 } => {
-                e = e2;
-                m = m2;
-            }
-            Walk::Stop { refusal, at: q } => return Walk::Stop { refusal, at: q },
-        }
-        left -= 1;
+    let mut end = Position { at, node: n };
+    for _ in 0..count {
+        end = bound_at(out, d, &*src, kind, end.at, end.node)?;
     }
-    Walk::Next { at: e, node: m }
+    Ok(end)
 }
 
-// An array's shape: Rank, NumSizes and the sizes, then the low bounds.
-pub fn shape_at(out: &mut [u32], d: usize, src: &[u8], kind: u32, at: usize, n: usize) -> Shape
-    requires { (length src.now ≤ max_bytes) × (n ≤ max_nodes) }
-    ensures { Shaped (shape_at d src.now kind at n) n result out.old out.new }
-{
-    match count_at(src, at, 1, MAX_RANK) {
-        Checked::Good {
-            value: rank,
-            next: at2,
-        } => match count_at(src, at2, 0, rank) {
-            Checked::Good {
-                value: sizes,
-                next: at3,
-            } => match bounds_at(out, d, &*src, SIZE, sizes, at3, n) {
-                Walk::Next { at: e, node: m } => lows_at(out, d, &*src, kind, rank, sizes, e, m),
-                Walk::Stop { refusal, at: q } => Shape::Stop { refusal, at: q },
-            },
-            Checked::Bad { refusal } => Shape::Stop { refusal, at: at2 },
-        },
-        Checked::Bad { refusal } => Shape::Stop { refusal, at },
-    }
-}
-
-// NumLoBounds and the low bounds, and with them the array's own numbers.
-fn lows_at(
+// An array's shape: Rank, NumSizes and the sizes, then NumLoBounds and the low bounds.
+pub fn shape_at(
     out: &mut [u32],
     d: usize,
     src: &[u8],
     kind: u32,
-    rank: u32,
-    sizes: u32,
     at: usize,
     n: usize,
-) -> Shape
-    requires { (length src.now ≤ max_bytes) × (rank ≤ max_rank) × (sizes ≤ max_rank) × (n ≤ max_nodes) }
-    ensures { Shaped (lows_at d src.now kind rank sizes at n) n result out.old out.new }
+) -> Result<Shape, Fault>
+    requires { (length src.now ≤ max_bytes) × (n ≤ max_nodes) }
+    ensures { Shaped (shape_at d src.now kind at n) n result out.old out.new }
 {
-    match count_at(src, at, 0, rank) {
-        Checked::Good { value: lows, next } => match bounds_at(out, d, &*src, LOW, lows, next, n) {
-            Walk::Next { at: e, node: m } => Shape::Done {
-                head: Head {
-                    kind,
-                    a: rank,
-                    b: sizes,
-                    children: 1 + sizes + lows,
-                },
-                at: e,
-                node: m,
-            },
-            Walk::Stop { refusal, at: q } => Shape::Stop { refusal, at: q },
-        },
-        Checked::Bad { refusal } => Shape::Stop { refusal, at },
-    }
+    let rank = placed(count_at(src, at, 1, MAX_RANK), at)?;
+    let sizes = placed(count_at(src, rank.next, 0, rank.value), rank.next)?;
+    let sized = bounds_at(out, d, &*src, SIZE, sizes.value, sizes.next, n)?;
+    let lows = placed(count_at(src, sized.at, 0, rank.value), sized.at)?;
+    let end = bounds_at(out, d, &*src, LOW, lows.value, lows.next, sized.node)?;
+    let children = 1 + sizes.value + lows.value;
+    Ok(Shape {
+        head: head_of(kind, rank.value, sizes.value, children),
+        end,
+    })
 }

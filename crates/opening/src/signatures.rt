@@ -3,14 +3,15 @@ ghost use Rattle.std.specs.Prelude.{◌≡◌, ◌<◌, length};
 ghost use Rattle.element.specs.declared.Place.TheVariants as Place;
 ghost use Rattle.opening.specs.Lead.{lead_of, counted_of, call_at, generic_at, lead_form, lead_at};
 
-use crate::Code;
+use crate::placed;
+use answer::refusal::{Fault, Refusal};
 use element::{Form, Place};
 use grammar::METHOD;
 use number::MAX_NUMBER;
-use number::checked::{Checked, checked_at, count_at};
+use number::checked::{checked_at, count_at};
 
 // A signature's own numbers, but for its children; and the types that follow: how many, the place of the first, that of the others, and the offset.
-#[derive(Clone, Copy)]
+#[derive(Clone, Copy, Debug, PartialEq, Eq)]
 pub struct Lead {
     pub kind: u32,
     pub a: u32,
@@ -19,13 +20,6 @@ pub struct Lead {
     pub first: Place,
     pub rest: Place,
     pub next: usize,
-}
-
-// A signature before its types; or the refusal's number and offset.
-#[derive(Clone, Copy)]
-pub enum Begun {
-    Shut { refusal: u32, at: usize },
-    Go { lead: Lead },
 }
 
 fn lead_of(kind: u32, a: u32, b: u32, count: u32, first: Place, rest: Place, next: usize) -> Lead
@@ -43,96 +37,70 @@ fn lead_of(kind: u32, a: u32, b: u32, count: u32, first: Place, rest: Place, nex
 }
 
 // A count of at least 1, which stands at `from`, then that many types.
-fn counted(src: &[u8], place: Place, kind: u32, from: usize) -> Begun
+fn counted(src: &[u8], place: Place, kind: u32, from: usize) -> Result<Lead, Fault>
     ensures { result ≡ counted_of src.now place kind from }
 {
-    match count_at(src, from, 1, MAX_NUMBER) {
-        Checked::Good { value, next } => Begun::Go {
-            lead: lead_of(kind, 0, 0, value, place, place, next),
-        },
-        Checked::Bad { refusal } => Begun::Shut { refusal, at: from },
-    }
+    let count = placed(count_at(src, from, 1, MAX_NUMBER), from)?;
+    Ok(lead_of(kind, 0, 0, count.value, place, place, count.next))
 }
 
 // ParamCount, which stands at `from`, then a return type and that many parameters.
-fn call_at(src: &[u8], params: Place, kind: u32, a: u32, byte: u8, from: usize) -> Begun
+fn call_at(
+    src: &[u8],
+    params: Place,
+    kind: u32,
+    a: u32,
+    byte: u8,
+    from: usize,
+) -> Result<Lead, Fault>
     ensures { result ≡ call_at src.now params kind a byte from }
 {
-    match checked_at(src, from) {
-        Checked::Good { value, next } => Begun::Go {
-            lead: lead_of(
-                kind,
-                a,
-                byte as u32,
-                value + 1,
-                Place::RetType,
-                params,
-                next,
-            ),
-        },
-        Checked::Bad { refusal } => Begun::Shut { refusal, at: from },
-    }
+    let count = placed(checked_at(src, from), from)?;
+    let types = count.value + 1;
+    let b = byte as u32;
+    Ok(lead_of(kind, a, b, types, Place::RetType, params, count.next))
 }
 
 // A generic count of at least 1, which stands at `from`, then as in `call_at`.
-fn generic_at(src: &[u8], params: Place, kind: u32, byte: u8, from: usize) -> Begun
+fn generic_at(src: &[u8], params: Place, kind: u32, byte: u8, from: usize) -> Result<Lead, Fault>
     ensures { result ≡ generic_at src.now params kind byte from }
 {
-    match count_at(src, from, 1, MAX_NUMBER) {
-        Checked::Good { value, next } => call_at(src, params, kind, value, byte, next),
-        Checked::Bad { refusal } => Begun::Shut { refusal, at: from },
-    }
+    let count = placed(count_at(src, from, 1, MAX_NUMBER), from)?;
+    call_at(src, params, kind, count.value, byte, count.next)
 }
 
 // What follows a signature's first byte, up to its types.
-fn lead_form(src: &[u8], form: Form, kind: u32, byte: u8, at: usize) -> Begun
+fn lead_form(src: &[u8], form: Form, kind: u32, byte: u8, at: usize) -> Result<Lead, Fault>
     requires { at < length src.now }
     ensures { result ≡ lead_form form src.now kind byte at }
 {
     let from = at + 1;
     match form {
-        Form::Wrap(child) => Begun::Go {
-            lead: lead_of(kind, 0, 0, 1, child, child, from),
-        },
+        Form::Wrap(child) => Ok(lead_of(kind, 0, 0, 1, child, child, from)),
         Form::Counted(child) => counted(src, child, kind, from),
         Form::Callable(params) => call_at(src, params, kind, 0, byte, from),
         Form::Generic(params) => generic_at(src, params, kind, byte, from),
-        Form::Refused => Begun::Shut { refusal: 5, at },
-        Form::Leaf => Begun::Shut { refusal: 5, at },
-        Form::Named => Begun::Shut { refusal: 5, at },
-        Form::Variable => Begun::Shut { refusal: 5, at },
-        Form::Modified(_) => Begun::Shut { refusal: 5, at },
-        Form::Array => Begun::Shut { refusal: 5, at },
-        Form::Instance => Begun::Shut { refusal: 5, at },
+        _ => Err(Refusal::ByteNotAllowed.at(at)),
     }
 }
 
 // A signature up to its types.
-pub fn lead_at(src: &[u8], place: Place, at: usize, n: usize, d: usize) -> Begun
+pub fn lead_at(src: &[u8], place: Place, at: usize, n: usize, d: usize) -> Result<Lead, Fault>
     ensures { result ≡ lead_at d src.now place at n }
 {
-    match crate::code_at(src, place, at, n, d) {
-        Code::Shut { refusal } => Begun::Shut { refusal, at },
-        Code::Byte { byte } => {
-            let form = element::signature_form_of(place, byte);
-            let kind = grammar::kind_of(place, byte);
-            lead_form(src, form, kind, byte, at)
-        }
-    }
+    let byte = crate::code_at(src, place, at, n, d)?;
+    let form = element::signature_form_of(place, byte);
+    let kind = grammar::kind_of(place, byte);
+    lead_form(src, form, kind, byte, at)
 }
 
 // The method below a FNPTR up to its types.
-pub fn fn_ptr_lead_at(src: &[u8], at: usize, n: usize, d: usize) -> Begun
+pub fn fn_ptr_lead_at(src: &[u8], at: usize, n: usize, d: usize) -> Result<Lead, Fault>
     ensures { result ≡ lead_at d src.now Place.FnPtrMethod at n }
 {
-    match crate::code_at(src, Place::FnPtrMethod, at, n, d) {
-        Code::Shut { refusal } => Begun::Shut { refusal, at },
-        Code::Byte { byte } => {
-            let form = element::fn_ptr_method_form(byte);
-            match form {
-                Form::Callable(params) => call_at(src, params, METHOD, 0, byte, at + 1),
-                _ => Begun::Shut { refusal: 5, at },
-            }
-        }
+    let byte = crate::code_at(src, Place::FnPtrMethod, at, n, d)?;
+    match element::fn_ptr_method_form(byte) {
+        Form::Callable(params) => call_at(src, params, METHOD, 0, byte, at + 1),
+        _ => Err(Refusal::ByteNotAllowed.at(at)),
     }
 }

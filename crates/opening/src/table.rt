@@ -1,10 +1,10 @@
 // Records put into the table that is lent, each where it fits.
 ghost use Rattle.std.specs.Prelude.{◌≡◌, ◌+◌, ◌≤◌, ◌<◌};
 ghost use Rattle.grammar.specs.Limits.{max_bytes, max_nodes};
-ghost use Rattle.opening.specs.declared.Walk.TheVariants as Walk;
-ghost use Rattle.opening.specs.Table.{put_of, put_after, close_of, small_of, Sealed};
+ghost use Rattle.opening.specs.Means.{record_of};
+ghost use Rattle.opening.specs.Table.{put_of, put_after, close_of};
 
-use crate::{Head, Walk};
+use crate::Head;
 use grammar::Node;
 
 fn size32(x: usize) -> u32
@@ -30,43 +30,22 @@ fn put(out: &mut [u32], n: usize, rec: Node)
     }
 }
 
-// Puts the record of a node whose children are read, or passes their refusal on.
-pub fn seal(out: &mut [u32], n: usize, head: Head, at: usize, w: Walk) -> Walk
-    requires { (n < max_nodes) × (at ≤ max_bytes) × small_of w }
-    ensures { Sealed w n head at result out.old out.new }
+// Puts the record of a node whose children are read, `after` the index after them.
+pub fn seal(out: &mut [u32], n: usize, head: Head, at: usize, after: usize)
+    requires { (n < max_nodes) × (at ≤ max_bytes) × (after ≤ max_nodes) }
+    ensures { out.new ≡ put_of out.old n (record_of head at after) }
 {
-    match w {
-        Walk::Next { at: e, node: m } => {
-            let start = size32(at);
-            let after = size32(m);
-            put(
-                out,
-                n,
-                Node {
-                    kind: head.kind,
-                    a: head.a,
-                    b: head.b,
-                    children: head.children,
-                    at: start,
-                    after,
-                },
-            );
-            Walk::Next { at: e, node: m }
-        }
-        Walk::Stop { refusal, at: q } => Walk::Stop { refusal, at: q },
-    }
-}
-
-// The record of a node as if it had no children.
-pub fn childless(out: &mut [u32], n: usize, head: Head, at: usize, next: usize) -> Walk
-    requires { (n < max_nodes) × (at ≤ max_bytes) }
-    ensures { Sealed (Walk.Next next (n + 1)) n head at result out.old out.new }
-{
-    let w = Walk::Next {
-        at: next,
-        node: n + 1,
+    let start = size32(at);
+    let end = size32(after);
+    let record = Node {
+        kind: head.kind,
+        a: head.a,
+        b: head.b,
+        children: head.children,
+        at: start,
+        after: end,
     };
-    seal(out, n, head, at, w)
+    put(out, n, record);
 }
 
 // Stores the index after a node's subtree in its record, where it fits.
@@ -86,11 +65,7 @@ pub fn close(out: &mut [u32], n: usize, k: usize, after: usize)
     ensures { out.new ≡ close_of out.old n k after }
 {
     let last = size32(after);
-    let mut i = n;
-    let mut left = k;
-    while 0 < left {
-        i -= 1;
+    for i in (n - k..n).rev() {
         put_after(out, i, last);
-        left -= 1;
     }
 }

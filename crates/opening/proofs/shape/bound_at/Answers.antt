@@ -1,12 +1,25 @@
 -- `opening::shape::bound_at` meets its contract. Assumes nothing.
-use borrow.Author.Tests.{ne_eqb}
-use Rattle.opening.specs.Shape.{bound_at}
+use Rattle.std.proofs.Common.{rules}
+use Rattle.std.specs.Prelude.{Err}
+use native.Mathlib.Omega.{arith}
+use mathlib.Core.Path.{◌≡◌, sym, ◌∙◌}
+use Rattle.opening.specs.End.{ended}
+use Rattle.number.proofs.Checks.{checked-onward}
+use Rattle.opening.proofs.Codes.{placed_ok, placed_err}
+use Rattle.opening.proofs.Shapes.{bound-bad, bound-good}
 use Rattle.opening.proofs.shape.bound_at.Goals as goal
 
-pub returns-then-kind-eq-SIZE : goal.returns-then-kind-eq-SIZE
-unfolding bound_at
-returns-then-kind-eq-SIZE c = rw c.if-kind-eq-SIZE.true c.size_at.ensures
+pub returns-in_err-number : goal.returns-in_err-number
+unfolding ended
+returns-in_err-number c =
+    let e : c.from_residual.result ≡ Err c.in_err-number.field-0.0 = search rules in
+    let p = placed_err c.checked_at.result _ c.placed.ensures c.in_err-number.was in
+    rw (e, p.2) (bound-bad c.args.kind c.args.d c.args.at c.args.n _ _ c.checked_at.ensures p.0 _ p.1)
+
+pub bound_of-requires : goal.bound_of-requires
+bound_of-requires c =
+    omega (arith, checked-onward _ _ _ _ (sym c.checked_at.ensures ∙ placed_ok c.checked_at.result _ c.placed.ensures c.in_ok-number.was))
 
 pub returns : goal.returns
-unfolding bound_at
-returns c = rw (ne_eqb _ _ c.if-kind-eq-SIZE.false) c.low_at.ensures
+returns c =
+    bound-good c.args.kind c.args.d c.args.at _ _ _ c.checked_at.ensures _ _ _ _ _ (placed_ok c.checked_at.result _ c.placed.ensures c.in_ok-number.was) c.bound_of.ensures

@@ -1,15 +1,20 @@
 -- `opening::shape::bound_of` meets its contract. Assumes nothing.
+use Rattle.opening.specs.End.{ended}
+use Rattle.opening.proofs.Walks.{seal_put}
 use Rattle.opening.proofs.Shapes.{bound-deep, bound-full, bound-done}
 use Rattle.opening.proofs.shape.bound_of.Goals as goal
 
 pub returns-then-d-eq0 : goal.returns-then-d-eq0
-returns-then-d-eq0 c =
-    bound-deep c.args.kind c.args.d c.args.value c.args.next _ _ _ c.if-d-eq0.true
+unfolding ended
+returns-then-d-eq0 c = rw c.at.ensures (bound-deep c.args.kind c.args.d c.args.number.value c.args.number.next _ _ _ c.if-d-eq0.true)
 
 pub returns-then-n-ge-MAX_NODES : goal.returns-then-n-ge-MAX_NODES
+unfolding ended
 returns-then-n-ge-MAX_NODES c =
-    bound-full c.args.kind c.args.d c.args.value c.args.next _ _ _ c.if-d-eq0.false c.if-n-ge-MAX_NODES.true
+    rw c.at-then-n-ge-MAX_NODES.ensures (bound-full c.args.kind c.args.d c.args.number.value c.args.number.next _ _ _ c.if-d-eq0.false c.if-n-ge-MAX_NODES.true)
 
 pub returns : goal.returns
+unfolding ended
 returns c =
-    let h = rw c.head_of.ensures at c.childless.ensures in bound-done _ _ _ _ _ _ _ _ _ c.if-d-eq0.false c.if-n-ge-MAX_NODES.false h
+    bound-done _ _ _ _ _ _ _ _ _ c.if-d-eq0.false c.if-n-ge-MAX_NODES.false
+    (seal_put _ _ _ _ _ (rw c.head_of.ensures at c.seal.ensures))

@@ -1,19 +1,21 @@
 -- `opening::signatures::call_at` meets its contract. Assumes nothing.
+use Rattle.std.proofs.Common.{rules}
 use native.Mathlib.Omega.{arith}
 use Rattle.opening.specs.Lead.{call_at}
-use Rattle.number.proofs.Checks.{on_good, on_bad, checked-small}
+use Rattle.number.proofs.Checks.{checked-small}
+use Rattle.opening.proofs.Codes.{placed_ok}
 use Rattle.opening.proofs.signatures.call_at.Goals as goal
 
-pub overflow_add-value : goal.overflow_add-value
+pub returns-in_err-count : goal.returns-in_err-count
 unfolding call_at
-overflow_add-value c =
-    let v = c.in-Good.value in let h = checked-small _ _ _ _ _ (λ i. (c.type_inv.src i).fits) c.checked_at.ensures c.in-Good.is in omega arith
+returns-in_err-count c = search rules
 
-pub returns-in-Good : goal.returns-in-Good
-unfolding call_at
-returns-in-Good c =
-    on_good c.checked_at.ensures _ _ c.in-Good.is (rw c.lead_of.ensures)
+pub overflow_add-types : goal.overflow_add-types
+overflow_add-types c =
+    let v = c.in_ok-count.count.value in
+    let h = checked-small _ _ _ _ _ (λ i. (c.type_inv.src i).fits) c.checked_at.ensures (placed_ok c.checked_at.result _ c.placed.ensures c.in_ok-count.was) in
+    omega arith
 
-pub returns-in-Bad : goal.returns-in-Bad
+pub returns : goal.returns
 unfolding call_at
-returns-in-Bad c = on_bad c.checked_at.ensures _ _ c.in-Bad.is
+returns c = search rules

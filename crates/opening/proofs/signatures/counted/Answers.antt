@@ -1,13 +1,12 @@
 -- `opening::signatures::counted` meets its contract. Assumes nothing.
+use Rattle.std.proofs.Common.{rules}
 use Rattle.opening.specs.Lead.{counted_of}
-use Rattle.number.proofs.Checks.{on_good, on_bad}
 use Rattle.opening.proofs.signatures.counted.Goals as goal
 
-pub returns-in-Good : goal.returns-in-Good
+pub returns-in_err-count : goal.returns-in_err-count
 unfolding counted_of
-returns-in-Good c =
-    on_good c.count_at.ensures _ _ c.in-Good.is (rw c.lead_of.ensures)
+returns-in_err-count c = search rules
 
-pub returns-in-Bad : goal.returns-in-Bad
+pub returns : goal.returns
 unfolding counted_of
-returns-in-Bad c = on_bad c.count_at.ensures _ _ c.in-Bad.is
+returns c = search rules

@@ -1,13 +1,12 @@
 -- `opening::signatures::generic_at` meets its contract. Assumes nothing.
+use Rattle.std.proofs.Common.{rules}
 use Rattle.opening.specs.Lead.{generic_at}
-use Rattle.number.proofs.Checks.{on_good, on_bad}
 use Rattle.opening.proofs.signatures.generic_at.Goals as goal
 
-pub returns-in-Good : goal.returns-in-Good
+pub returns-in_err-count : goal.returns-in_err-count
 unfolding generic_at
-returns-in-Good c =
-    on_good c.count_at.ensures _ _ c.in-Good.is c.call_at.ensures
+returns-in_err-count c = search rules
 
-pub returns-in-Bad : goal.returns-in-Bad
+pub returns : goal.returns
 unfolding generic_at
-returns-in-Bad c = on_bad c.count_at.ensures _ _ c.in-Bad.is
+returns c = search rules

@@ -1,28 +1,28 @@
 -- `opening::table::close` meets its contract. Assumes nothing.
-use Prim.Native.Nat.{ℕ, ◌-◌}
+use Rattle.std.proofs.Common.{◌≡◌, ℕ, ◌-◌, List}
+use mathlib.Core.Path.{sym, ap, ◌∙◌}
 use native.Mathlib.Omega.{arith}
-use mathlib.Core.Path.{refl, sym, ap, ◌∙◌}
-use mathlib.Core.List.{List}
-use Rattle.opening.specs.Table.{close_of}
+use Rattle.opening.specs.Table.{put_after, close_of}
 use Rattle.opening.proofs.Stamp.{closes_more, closes_end}
 use Rattle.opening.proofs.table.close.Goals as goal
 
-pub loop-left-init : goal.loop-left-init
-loop-left-init c = (refl, c.requires.1, c.requires.0, refl)
+pub loop-i-init : goal.loop-i-init
+loop-i-init c =
+    let a = c.args in
+    let e : a.n - (a.n - a.k) ≡ a.k = omega arith in
+    ap (λ (j : ℕ). close_of a.out.now a.n j c.size32-last.result) e
 
-pub overflow_sub-i : goal.overflow_sub-i
-overflow_sub-i c = omega (arith, c.loop-left-test.true, c.loop-left.invariant.1)
-
-pub put_after-requires : goal.put_after-requires
-put_after-requires c = omega (arith, c.loop-left-test.true, c.loop-left.invariant)
-
-pub loop-left-preserved : goal.loop-left-preserved
-loop-left-preserved c =
-    let l = c.loop-left in let t = c.loop-left-test.true in (c.put_after.auto.out ∙ l.invariant.0, omega (arith, t, l.invariant.1), omega (arith, l.invariant.2), ap (λ (o : List ℕ). close_of o (l.i - 1) (l.left - 1) c.size32-last.result) c.put_after.ensures ∙ sym (closes_more _ _ _ _ t) ∙ l.invariant.3)
-
-pub shape_of-out : goal.shape_of-out
-shape_of-out c = c.loop-left.invariant.0
+pub loop-i-preserved : goal.loop-i-preserved
+loop-i-preserved c =
+    let l = c.loop-i in
+    let from = c.args.n - c.args.k in
+    let e : l.i - 1 - from ≡ l.i - from - 1 = omega arith in
+    ap (λ (o : List ℕ). close_of o (l.i - 1) (l.i - 1 - from) c.size32-last.result) c.put_after.ensures
+    ∙ ap (λ (j : ℕ). close_of (put_after l.out (l.i - 1) c.size32-last.result) (l.i - 1) j c.size32-last.result) e
+    ∙ sym (closes_more l.out l.i (l.i - from) c.size32-last.result (omega arith))
+    ∙ l.invariant
 
 pub returns : goal.returns
 returns c =
-    sym (closes_end _ _ _ _ c.loop-left-test.false) ∙ c.loop-left.invariant.3 ∙ ap (close_of _ _ _) c.size32-last.ensures
+    let l = c.loop-i in
+    sym (closes_end _ _ _ _ (omega arith)) ∙ l.invariant ∙ ap (close_of _ _ _) c.size32-last.ensures

@@ -1,12 +1,12 @@
 -- `opening::types::listed` meets its contract. Assumes nothing.
-use borrow.Author.Tests.{eq-eqb, ne_eqb}
+use Rattle.std.proofs.Common.{rules}
 use Rattle.opening.specs.Open.{listed_of}
 use Rattle.opening.proofs.types.listed.Goals as goal
 
-pub returns-then-k-eq1 : goal.returns-then-k-eq1
+pub returns-then-head-eq1 : goal.returns-then-head-eq1
 unfolding listed_of
-returns-then-k-eq1 c = rw (eq-eqb _ 1 c.if-k-eq1.true)
+returns-then-head-eq1 c = search rules
 
 pub returns : goal.returns
 unfolding listed_of
-returns c = rw (ne_eqb _ 1 c.if-k-eq1.false)
+returns c = search rules
