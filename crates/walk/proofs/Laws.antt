@@ -17,8 +17,10 @@ use Rattle.opening.specs.Table.{put_of, put_after, close_of, stamp, seals_of, Se
 use Rattle.opening.specs.Walk.{leaves, walk_of, Walked}
 use Rattle.opening.specs.Shape.{shape_at, sealing, Shaped}
 use Rattle.opening.specs.declared.Head.{Head}
-use Rattle.opening.specs.declared.Walk.{Walk}
-use Rattle.opening.specs.declared.Walk.TheVariants.{Next, Stop}
+use Rattle.std.specs.Prelude.{Result, Ok, Err}
+use Rattle.answer.specs.Refusal.{number_of}
+use Rattle.answer.specs.declared.refusal.Fault.{Fault}
+use Rattle.opening.specs.End.{Walk, Next, Stop}
 use Rattle.opening.specs.declared.shape.Shape.{Shape}
 use Rattle.opening.proofs.Stamp.{length_put, stamp-put, put-after}
 use Rattle.opening.proofs.Walks.{clash, series-stop, series-next}
@@ -112,22 +114,22 @@ module _ (d : ℕ) (s : List ℕ) (counts : Counts) (kind at n : ℕ) (w : Walk)
   pub array-stop : (c q : ℕ) → w ≡ Stop c q → Walked (array (node d s) d s counts kind at n) n (Stop c q) o o₁
   array-stop c q g = rw (array_shape (node d s) d s counts kind at n) (typed_stop (shape_at d s kind) at n w o o₁ _ x c q g)
 
-  module _ (e m : ℕ) (g : w ≡ Next e m) (t : Shape) (o₂ : List ℕ) (y : Shaped (shape_at d s kind e m) m t o₁ o₂) where
+  module _ (e m : ℕ) (g : w ≡ Next e m) (t : Result Shape Fault) (o₂ : List ℕ) (y : Shaped (shape_at d s kind e m) m t o₁ o₂) where
     -- by what its shape gave
-    array-by : (v : Shape) → t ≡ v → sealing (array (node d s) d s counts kind at n) n at v o o₂
+    array-by : (v : Result Shape Fault) → t ≡ v → sealing (array (node d s) d s counts kind at n) n at v o o₂
     array-by v u =
         rw (array_shape (node d s) d s counts kind at n)
-        (subst (λ (v : Shape). sealing (bind (node d s counts Place.Type (at + 1) (n + 1)) (λ e m. shape_at d s kind e m at)) n at v o o₂) u
+        (subst (λ (v : Result Shape Fault). sealing (bind (node d s counts Place.Type (at + 1) (n + 1)) (λ e m. shape_at d s kind e m at)) n at v o o₂) u
         (typed_shape (shape_at d s kind) at n w o o₁ _ (ends-node s d counts Place.Type (at + 1) (n + 1)) x e m g t o₂ y))
 
-    pub array-cut : (c q : ℕ) → t ≡ Shape.Stop c q → Walked (array (node d s) d s counts kind at n) n (Stop c q) o o₂
+    pub array-cut : (f : Fault) → t ≡ Err f → Walked (array (node d s) d s counts kind at n) n (Stop (number_of f.refusal) f.place) o o₂
     unfolding sealing
-    array-cut c q u = array-by _ u
+    array-cut f u = array-by _ u
 
-    pub array-small : (h : Head) (e₂ m₂ : ℕ) → t ≡ Shape.Done h e₂ m₂ → m₂ ≤ max_nodes
+    pub array-small : (x : Shape) → t ≡ Ok x → x.end.node ≤ max_nodes
     unfolding sealing
-    array-small h e₂ m₂ u = (array-by _ u).0
+    array-small x u = (array-by _ u).0
 
-    pub array-done : (h : Head) (e₂ m₂ : ℕ) → t ≡ Shape.Done h e₂ m₂ → (r : Walk) (o₃ : List ℕ) → Sealed (Next e₂ m₂) n h at r o₂ o₃ → Walked (array (node d s) d s counts kind at n) n r o o₃
+    pub array-done : (x : Shape) → t ≡ Ok x → (r : Walk) (o₃ : List ℕ) → Sealed (Next x.end.at x.end.node) n x.head at r o₂ o₃ → Walked (array (node d s) d s counts kind at n) n r o o₃
     unfolding sealing
-    array-done h e₂ m₂ u = (array-by _ u).1
+    array-done x u = (array-by _ u).1

@@ -1,20 +1,23 @@
 -- `walk::signature_at` meets its contract. Assumes nothing.
-use native.Mathlib.Omega.{arith}
-use Rattle.walk.proofs.Steps.{signature-stop, signature-bounds, signature-small, signature-done}
+use Rattle.std.proofs.Common.{rules, ◌≡◌}
+use Rattle.std.specs.Prelude.{Err}
+use Rattle.opening.specs.End.{ended}
+use Rattle.walk.proofs.Steps.{signature-bounds, signature-stop, signature-led}
 use Rattle.walk.proofs.signature_at.Goals as goal
 
-pub types_at-types-requires : goal.types_at-types-requires
-types_at-types-requires c =
-    let b = signature-bounds _ _ _ _ _ c.requires.1 _ c.lead_at.ensures _ c.in-Go.is in (c.requires.0, b.3, b.4)
+pub returns-in_err-lead : goal.returns-in_err-lead
+unfolding ended
+returns-in_err-lead c =
+    let e : c.from_residual.result ≡ Err c.in_err-lead.field-0.0 = search rules in
+    rw e (signature-stop _ _ _ _ _ _ c.requires.1 _ c.lead_at.ensures _ _ c.in_err-lead.was)
 
-pub seal_types-requires : goal.seal_types-requires
-seal_types-requires c =
-    (omega arith, omega arith, signature-small _ _ _ _ _ _ c.requires.1 _ c.lead_at.ensures _ c.in-Go.is _ _ _ c.types_at-types.ensures)
+pub signature_types_at-requires-clause-read : goal.signature_types_at-requires-clause-read
+signature_types_at-requires-clause-read c =
+    let b = signature-bounds _ _ _ _ _ c.requires.1 _ c.lead_at.ensures _ c.in_ok-lead.was in (c.requires.0, b.1, b.2)
 
-pub returns-in-Shut : goal.returns-in-Shut
-returns-in-Shut c =
-    signature-stop _ _ _ _ _ _ c.requires.1 _ c.lead_at.ensures _ _ _ c.in-Shut.is
+pub signature_types_at-requires-clause-places : goal.signature_types_at-requires-clause-places
+signature_types_at-requires-clause-places c =
+    let b = signature-bounds _ _ _ _ _ c.requires.1 _ c.lead_at.ensures _ c.in_ok-lead.was in (b.3, b.4)
 
-pub returns-in-Go : goal.returns-in-Go
-returns-in-Go c =
-    signature-done _ _ _ _ _ _ c.requires.1 _ c.lead_at.ensures _ c.in-Go.is _ _ _ c.types_at-types.ensures _ _ c.seal_types.ensures
+pub returns : goal.returns
+returns c = signature-led _ _ _ _ _ _ c.requires.1 _ c.lead_at.ensures _ c.in_ok-lead.was _ _ _ c.signature_types_at.ensures

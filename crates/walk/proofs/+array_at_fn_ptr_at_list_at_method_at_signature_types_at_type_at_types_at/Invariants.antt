@@ -4,10 +4,9 @@ use Rattle.grammar.specs.Judge.{node}
 use Rattle.element.specs.Element.{is_type_place}
 use Rattle.opening.specs.Means.{series}
 use Rattle.opening.specs.Walk.{Walked}
-use Rattle.opening.specs.declared.Walk.{Walk}
-use Rattle.opening.specs.declared.Walk.TheVariants.{Next}
+use Rattle.opening.specs.End.{Walk, Next}
 use Rattle.walk.proofs.Laws.{Pending}
-use Rattle.walk.proofs.+array_at_fn_ptr_at_list_at_method_at_type_at_types_at.Given as goal
+use Rattle.walk.proofs.+array_at_fn_ptr_at_list_at_method_at_signature_types_at_type_at_types_at.Given as goal
 
 abbrev pub decreases-array_at : goal.decreases-array_at
 decreases-array_at l = 3 * l.d + 2
@@ -20,6 +19,9 @@ decreases-list_at l = 3 * l.d + 1
 
 abbrev pub decreases-method_at : goal.decreases-method_at
 decreases-method_at l = 3 * l.d
+
+abbrev pub decreases-signature_types_at : goal.decreases-signature_types_at
+decreases-signature_types_at l = 3 * l.d + 1
 
 abbrev pub decreases-type_at : goal.decreases-type_at
 decreases-type_at l = 3 * l.d + 1
