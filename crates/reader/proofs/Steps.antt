@@ -12,8 +12,7 @@ use Rattle.grammar.specs.Kinds.{max_kind, root_of}
 use Rattle.grammar.specs.Limits.{max_bytes, max_depth}
 use Rattle.grammar.specs.Judge.{Out, fault, done, bind, check, node, known_counts, judge}
 use Rattle.opening.specs.Walk.{leaves, walk_of, Walked}
-use Rattle.opening.specs.declared.Walk.{Walk}
-use Rattle.opening.specs.declared.Walk.TheVariants.{Next, Stop}
+use Rattle.opening.specs.End.{Walk, Next, Stop}
 use Rattle.opening.proofs.Stamp.{length_stamp}
 use Rattle.opening.proofs.Walks.{clash}
 use Rattle.answer.specs.Answers.{answer}

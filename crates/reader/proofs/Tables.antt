@@ -1,15 +1,14 @@
 -- A table held against the one that a walk left: compared number by number.
 -- Assumes nothing.
 use Prim.Native.Nat.{ℕ, suc, ◌+◌, ◌*◌, ◌≤◌, ◌<◌}
-use native.Mathlib.Numerals.{add-one}
 use native.Mathlib.Omega.{arith}
 use mathlib.Core.Path.{◌≡◌, refl, sym, ap, ◌∙◌}
 use mathlib.Core.Bool.{Bool, true, false, ◌&&◌}
 use mathlib.Core.List.{List, [], ◌∷◌}
-use lib.ListN.{length, get_or, take, drop, drop_of_length-le}
-use lib.Seq.{drop-cons, take_at, length-take-le}
+use lib.ListN.{length, take}
+use lib.Seq.{take_at, length-take-le}
 use lib.Dec.{eqb}
-use borrow.Author.Tests.{eq-eqb, ne_eqb}
+use lib.Pointwise.{pointwise}
 use Rattle.number.specs.declared.token.Counts.{Counts}
 use Rattle.grammar.specs.Table.{flat}
 use Rattle.grammar.specs.Limits.{max_nodes}
@@ -40,31 +39,15 @@ same_lengths (x ∷ xs) (y ∷ ys) h = go (eqb x y) (same_lengths xs ys (λ e. h
     go true e = e
     go false e = refl
 
-module _ (a b : List ℕ) (i : ℕ) (h : i < length a) (e : length a ≡ length b) where
-  here : same_numbers (drop i a) (drop i b) ≡ (eqb (get_or a i 0) (get_or b i 0) && same_numbers (drop (suc i) a) (drop (suc i) b))
-  unfolding same_numbers
-  here = let k : i < length b = omega arith in rw (drop-cons a i 0 h, drop-cons b i 0 k)
-
-  -- k: whether all was the same before i, and k₁ up to i
-  pub same_differ : (k k₁ : Bool) → (get_or a i 0 ≡ get_or b i 0 → ⊥) → k₁ ≡ false → (k₁ && same_numbers (drop (i + 1) a) (drop (i + 1) b)) ≡ (k && same_numbers (drop i a) (drop i b))
-  same_differ k k₁ g q = rw (q, here, ne_eqb (get_or a i 0) (get_or b i 0) g) (go k)
-    where
-      go : (t : Bool) → false ≡ (t && false)
-      go true = refl
-      go false = refl
-
-  pub same_step : (k k₁ : Bool) → get_or a i 0 ≡ get_or b i 0 → k₁ ≡ k → (k₁ && same_numbers (drop (i + 1) a) (drop (i + 1) b)) ≡ (k && same_numbers (drop i a) (drop i b))
-  same_step k k₁ g q = rw (q, add-one, here, eq-eqb (get_or a i 0) (get_or b i 0) g) refl
-
-pub same_end : (a b : List ℕ) (i : ℕ) (k : Bool) → length a ≡ length b → length a ≤ i → k ≡ (k && same_numbers (drop i a) (drop i b))
+-- what `==` of two slices of numbers computes
+pub equal-same : (xs ys : List ℕ) → pointwise eqb xs ys ≡ same_numbers xs ys
 unfolding same_numbers
-same_end a b i k e g = let h : length b ≤ i = omega arith in rw (drop_of_length-le a g, drop_of_length-le b h) (go k)
-  where
-    go : (t : Bool) → t ≡ (t && true)
-    go true = refl
-    go false = refl
+equal-same [] [] = refl
+equal-same [] (y ∷ ys) = refl
+equal-same (x ∷ xs) [] = refl
+equal-same (x ∷ xs) (y ∷ ys) = ap (λ t. eqb x y && t) (equal-same xs ys)
 
--- ---- has_table_in
+-- ---- has_table_within
 
 -- a table that no judgement gives, since it has another length
 other_length : (t : List ℕ) (at n : ℕ) (rs : List Node) → n ≡ length rs → (6 * n ≡ length t → ⊥) → false ≡ has_table t (done at n rs)

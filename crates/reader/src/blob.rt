@@ -1,38 +1,28 @@
 // A whole blob, walked over and answered: for `judge`, `read` and `has_table`, which lend it their records.
 ghost use Rattle.grammar.specs.Judge.{judge};
+ghost use Rattle.answer.specs.Answers.{panel_of};
 ghost use Rattle.reader.specs.Blob.{Judged};
 
-use answer::Answer;
+use answer::refusal::{Fault, Refusal};
 use grammar::{MAX_BYTES, MAX_KIND};
 use number::token::Counts;
-use opening::Walk;
 
-// The whole blob, with the records put into `out` where they fit: 12, 13, 1, the first fault from the left, 9.
-pub fn judge_in(out: &mut [u32], kind: u32, counts: Counts, src: &[u8]) -> Answer
-    ensures { Judged (judge kind counts src.now) result out.old out.new }
+// The whole blob, with the records put into `out` where they fit: 12, 13, 1, the first fault from the left, 9; else how many nodes there are.
+pub fn judge_in(out: &mut [u32], kind: u32, counts: Counts, src: &[u8]) -> Result<usize, Fault>
+    ensures { Judged (judge kind counts src.now) (panel_of result) out.old out.new }
 {
     if MAX_KIND < kind {
-        return Answer { code: 12, place: 0 };
+        return Err(Refusal::UnknownKind.at(0));
     }
-    if grammar::known_counts(counts) {
-        if MAX_BYTES < src.len() {
-            return Answer { code: 1, place: 0 };
-        }
-        return match walk::root_at(out, kind, counts, src) {
-            Walk::Next { at, node } => {
-                if at == src.len() {
-                    return Answer {
-                        code: 0,
-                        place: node,
-                    };
-                }
-                Answer { code: 9, place: at }
-            }
-            Walk::Stop { refusal, at } => Answer {
-                code: refusal,
-                place: at,
-            },
-        };
+    if !grammar::known_counts(counts) {
+        return Err(Refusal::TableTooLarge.at(0));
     }
-    Answer { code: 13, place: 0 }
+    if MAX_BYTES < src.len() {
+        return Err(Refusal::BlobTooLong.at(0));
+    }
+    let end = walk::root_at(out, kind, counts, src)?;
+    if end.at != src.len() {
+        return Err(Refusal::BytesLeft.at(end.at));
+    }
+    Ok(end.node)
 }
