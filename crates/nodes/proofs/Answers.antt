@@ -10,7 +10,7 @@ use mathlib.Core.List.{List, [], ◌∷◌, ◌++◌, append_assoc}
 use lib.ListN.{length, get_or, take, drop, replicate, length-append, length-drop, length-replicate, get_or-eq_default}
 use lib.Seq.{length-take-le}
 use lib.Dec.{leb, ltb}
-use borrow.Author.Tests.{lt-ltb, le-ltb, ne_eqb, leb-true, ltb-true, ltb-false}
+use borrow.Author.Tests.{lt-ltb, le-ltb, leb-true, ltb-true, ltb-false}
 use Rattle.number.specs.declared.token.Counts.{Counts}
 use Rattle.grammar.specs.Limits.{max_nodes}
 use Rattle.grammar.specs.Table.{six, flat}
@@ -23,8 +23,7 @@ use Rattle.grammar.proofs.Refusals.{read_refuses, refusal_byte}
 use Rattle.answer.specs.Answers.{answer}
 use Rattle.reader.specs.Answer.{answer_of, table_of}
 use Rattle.answer.specs.declared.Answer.{Answer}
-use Rattle.nodes.specs.Nodes.{blank, shorter, records_of, found_of, reading_within, ReadWithin, nodes_of, nodes_from, copy_records}
-use Rattle.nodes.specs.declared.Found.{Found}
+use Rattle.nodes.specs.Nodes.{blank, shorter, records_of, node_of, reading_within, ReadWithin, nodes_from, copy_records}
 
 -- ---- lists
 
@@ -103,40 +102,48 @@ module _ (kind : ℕ) (counts : Counts) (s t : List ℕ) (most : ℕ) where
 
   -- ---- read_records
 
-  refuses : (o : Out) (code place : ℕ) → out ≡ fault code place → nodes_of (answer code place) ≡ 0
-  refuses o code place e =
-      let h = refusal_byte code (read_refuses kind counts s (shorter (length t / 6) most) code place e).0 in
-      rw (ne_eqb code 0 (λ z. omega (arith, h, z))) refl
-
-  fitting : (o : Out) → out ≡ o → (6 * nodes_of (answer_of o) ≤ length t) × (nodes_of (answer_of o) ≤ most)
+  fits : (o : Out) (n : ℕ) → out ≡ o → answer 0 n ≡ answer_of o → (6 * n ≤ length t) × (n ≤ most)
   unfolding answer_of
-  fitting (fault code place) e = let z = refuses out code place e in (omega (arith, z), omega (arith, z))
-  fitting (done at n rs) e =
-      let l : n ≤ shorter (length t / 6) most = holds_done _ (fits_reading kind counts s (shorter (length t / 6) most)) e in
+  fits (fault code place) n e a =
+      let h = refusal_byte code (read_refuses kind counts s (shorter (length t / 6) most) code place e).0 in
+      let z : 0 ≡ code = ap (λ (x : Answer). x.code) a in
+      absurd (omega (arith, h, z))
+  fits (done at m rs) n e a =
+      let z : n ≡ m = ap (λ (x : Answer). x.place) a in
+      let l : m ≤ shorter (length t / 6) most = holds_done _ (fits_reading kind counts s (shorter (length t / 6) most)) e in
       let h = shorter-least (length t / 6) most in
-      (omega (arith, l, h), omega (arith, l, h))
+      (omega (arith, l, h, z), omega (arith, l, h, z))
 
   -- what `copy_records` asks
-  pub asked : (r : Answer) (n : ℕ) (u : List ℕ) → r ≡ answer_of out → n ≡ nodes_of r → length u ≡ length t → (6 * n ≤ length u) × (n ≤ most)
-  asked r n u e f l =
-      let h = fitting out refl in
-      let g : n ≡ nodes_of (answer_of out) = f ∙ ap nodes_of e in
-      (omega (arith, h, g, l), omega (arith, h, g))
+  pub asked : (n : ℕ) (u : List ℕ) → answer 0 n ≡ answer_of out → length u ≡ length t → (6 * n ≤ length u) × (n ≤ most)
+  asked n u e l = let h = fits out n refl e in (omega (arith, h, l), omega (arith, h))
 
   module _ (old : List Node) where
-    copies : (o : Out) → out ≡ o → Holds (Ends 0) o → copy_records (table_of o t) (nodes_of (answer_of o)) old ≡ records_of o old
-    unfolding answer_of table_of records_of nodes_from
-    copies (fault code place) e h = ap (λ (k : ℕ). copy_records t k old) (refuses out code place e)
-    copies (done at n rs) e (holds h) =
-        let k : n ≡ length rs = omega (arith, h) in
-        ap {B = List Node} (λ (i : ℕ). nodes_from (flat rs ++ drop (6 * n) t) 0 i ++ drop n old) k
-        ∙ ap {B = List Node} (λ (x : List Node). x ++ drop n old) (nodes-flat rs (drop (6 * n) t) [] 0 refl)
+    -- a refusal leaves them
+    pub kept_out : (code place : ℕ) → answer code place ≡ answer_of out → (code ≡ 0 → ⊥) → old ≡ records_of out old
+    unfolding answer_of records_of
+    kept_out code place e z = go out e
+      where
+        go : (o : Out) → answer code place ≡ answer_of o → old ≡ records_of o old
+        go (fault c p) a = refl
+        go (done at n rs) a = absurd (z (ap (λ (x : Answer). x.code) a))
 
     -- the copy is what is said of the outcome
-    pub copies_out : (r : Answer) (n : ℕ) (u : List ℕ) (after : List Node) → r ≡ answer_of out → n ≡ nodes_of r → u ≡ table_of out t → after ≡ copy_records u n old → after ≡ records_of out old
-    copies_out r n u after e f g h =
-        let k : n ≡ nodes_of (answer_of out) = f ∙ ap nodes_of e in
-        h ∙ ap (λ (v : List ℕ). copy_records v n old) g ∙ ap (λ (i : ℕ). copy_records (table_of out t) i old) k ∙ copies out refl (ends-reading kind counts s (shorter (length t / 6) most))
+    pub copies_out : (n : ℕ) (u : List ℕ) (after : List Node) → answer 0 n ≡ answer_of out → u ≡ table_of out t → after ≡ copy_records u n old → after ≡ records_of out old
+    unfolding answer_of table_of records_of nodes_from
+    copies_out n u after e g h = h ∙ ap (λ (v : List ℕ). copy_records v n old) g ∙ go out refl (ends-reading kind counts s (shorter (length t / 6) most)) e
+      where
+        go : (o : Out) → out ≡ o → Holds (Ends 0) o → answer 0 n ≡ answer_of o → copy_records (table_of o t) n old ≡ records_of o old
+        go (fault code place) q x a =
+            let w = refusal_byte code (read_refuses kind counts s (shorter (length t / 6) most) code place q).0 in
+            let z : 0 ≡ code = ap (λ (y : Answer). y.code) a in
+            absurd (omega (arith, w, z))
+        go (done at m rs) q (holds x) a =
+            let z : n ≡ m = ap (λ (y : Answer). y.place) a in
+            let k : m ≡ length rs = omega (arith, x) in
+            ap {B = List Node} (λ (i : ℕ). nodes_from (flat rs ++ drop (6 * m) t) 0 i ++ drop i old) z
+            ∙ ap {B = List Node} (λ (i : ℕ). nodes_from (flat rs ++ drop (6 * m) t) 0 i ++ drop m old) k
+            ∙ ap {B = List Node} (λ (x : List Node). x ++ drop m old) (nodes-flat rs (drop (6 * m) t) [] 0 refl)
 
 -- ---- record_of
 
@@ -149,5 +156,5 @@ past_blank (done at n rs) i (holds h) l =
     let f = length-drop n (replicate max_nodes blank) in
     get_or-eq_default (rs ++ drop n (replicate max_nodes blank)) blank {n = i} (omega (arith, e, f, length-replicate max_nodes blank, h, l))
 
-pub found_past : (kind : ℕ) (counts : Counts) (s : List ℕ) (lent i j : ℕ) (found : Found) → max_nodes ≤ i → found ≡ found_of (reading kind counts s lent) j → record { answer = found.answer; node = blank } ≡ found_of (reading kind counts s lent) i
-found_past kind counts s lent i j found l e x = record { answer = (e x).answer; node = sym (past_blank (reading kind counts s lent) i (ends-reading kind counts s lent) l) x }
+pub node_past : (kind : ℕ) (counts : Counts) (s : List ℕ) (lent i : ℕ) → max_nodes ≤ i → blank ≡ node_of (reading kind counts s lent) i
+node_past kind counts s lent i l = sym (past_blank (reading kind counts s lent) i (ends-reading kind counts s lent) l)

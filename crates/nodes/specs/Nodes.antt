@@ -1,12 +1,13 @@
 -- What the reader's second call leaves in the caller's records (document 01, "The node table": "the slice of record structs stands over it, as a
 -- second reader call with the same answers that copies the list into the caller's records (both are lent; 11 counts the shorter)").
-use Rattle.std.specs.Prelude.{◌≡◌, ℕ, zero, suc, ◌+◌, ◌/◌, cond, List, [], ◌∷◌, ◌++◌, length, drop, get_or, replicate, eqb, ltb}
+use Rattle.std.specs.Prelude.{◌≡◌, ℕ, zero, suc, ◌+◌, ◌/◌, cond, List, [], ◌∷◌, ◌++◌, length, drop, get_or, replicate, ltb}
 use Rattle.number.specs.declared.token.Counts.{Counts}
 use Rattle.grammar.specs.Limits.{max_nodes}
 use Rattle.grammar.specs.Table.{entry, record_at}
 use Rattle.grammar.specs.Judge.{Out, fault, done, reading}
 use Rattle.grammar.specs.declared.Node.{Node}
 use Rattle.reader.specs.Answer.{answer_of, table_of, Reads}
+use Rattle.answer.specs.Answers.{panel_of}
 use Rattle.answer.specs.declared.Answer.{Answer}
 use Rattle.nodes.specs.declared.Found.{Found}
 
@@ -23,9 +24,9 @@ unfoldable pub records_of : Out → List Node → List Node
 records_of (fault code place) old = old
 records_of (done at n rs) old = rs ++ drop n old
 
--- the answer, and record i of a slice of max_nodes blank records
-abbrev pub found_of : Out → ℕ → Found
-found_of out i = record { answer = answer_of out; node = get_or (records_of out (replicate max_nodes blank)) i blank }
+-- record i of a slice of max_nodes blank records
+abbrev pub node_of : Out → ℕ → Node
+node_of out i = get_or (records_of out (replicate max_nodes blank)) i blank
 
 -- a blob s read where the table t and `most` records are lent
 module _ (kind : ℕ) (counts : Counts) (s t : List ℕ) where
@@ -39,17 +40,14 @@ module _ (kind : ℕ) (counts : Counts) (s t : List ℕ) where
 
   -- `record_of`: the answer and record i, and the table afterwards
   abbrev pub RecordOf : ℕ → Found → List ℕ → Type 0
-  RecordOf i r after = (r ≡ found_of (reading_within max_nodes) i) × (after ≡ table_of (reading_within max_nodes) t)
+  RecordOf i r after =
+      (panel_of r.answer ≡ answer_of (reading_within max_nodes)) × (r.node ≡ node_of (reading_within max_nodes) i) × (after ≡ table_of (reading_within max_nodes) t)
 
   -- ---- Internal: an auditor goes by the above.
 
   -- `read_within`: the answer, and the table afterwards
   abbrev pub ReadWithin : ℕ → Answer → List ℕ → Type 0
   ReadWithin most r after = Reads (reading_within most) r t after
-
--- how many records an answer gives
-abbrev pub nodes_of : Answer → ℕ
-nodes_of a = cond (eqb a.code 0) a.place 0
 
 -- k records of a flat list from record i on
 unfoldable pub nodes_from : List ℕ → ℕ → ℕ → List Node

@@ -4,9 +4,10 @@
 
 ghost use Rattle.std.specs.Prelude.{◌≡◌, ◌<◌, ◌≤◌, ◌*◌, length};
 ghost use Rattle.grammar.specs.Limits.{max_nodes};
-ghost use Rattle.nodes.specs.Nodes.{ReadRecords, RecordOf, ReadWithin, nodes_of, copy_records};
+ghost use Rattle.answer.specs.Answers.{panel_of};
+ghost use Rattle.nodes.specs.Nodes.{ReadRecords, RecordOf, ReadWithin, copy_records};
 
-use answer::Answer;
+use answer::refusal::Fault;
 use grammar::{MAX_NODES, Node};
 use number::token::Counts;
 
@@ -20,15 +21,21 @@ const BLANK: Node = Node {
 };
 
 // What `record_of` gives: the call's answer, and one record.
-#[derive(Clone, Copy)]
+#[derive(Clone, Copy, Debug, PartialEq, Eq)]
 pub struct Found {
-    pub answer: Answer,
+    pub answer: Result<usize, Fault>,
     pub node: Node,
 }
 
 // Reads a blob into the flat table, of which `most` records at most are lent.
-fn read_within(kind: u32, counts: Counts, blob: &[u8], table: &mut [u32], most: usize) -> Answer
-    ensures { ReadWithin kind counts blob.now table.old most result table.new }
+fn read_within(
+    kind: u32,
+    counts: Counts,
+    blob: &[u8],
+    table: &mut [u32],
+    most: usize,
+) -> Result<usize, Fault>
+    ensures { ReadWithin kind counts blob.now table.old most (panel_of result) table.new }
 {
     if most < table.len() / 6 {
         let end = 6 * most;
@@ -37,44 +44,30 @@ fn read_within(kind: u32, counts: Counts, blob: &[u8], table: &mut [u32], most: 
     reader::read(kind, counts, blob, table)
 }
 
-// How many records an answer gives: none on a refusal.
-fn nodes_of(answer: Answer) -> usize
-    ensures { result ≡ nodes_of answer }
-{
-    if answer.code == 0 {
-        return answer.place;
-    }
-    0
-}
-
 // Copies the first `count` records of the flat table to the front of `records`.
 fn copy_records(table: &[u32], records: &mut [Node], count: usize)
     requires { (6 * count ≤ length table.now) × (count ≤ length records.old) }
     ensures { records.new ≡ copy_records table.now count records.old }
 {
-    let mut i = 0;
-    while i < count {
-        let node = grammar::record_at(table, i);
-        records[i] = node;
-        i = i + 1;
+    for i in 0..count {
+        records[i] = grammar::record_at(table, i);
     }
 }
 
-// Reads a blob into the flat table and into the slice of records; 11 counts the shorter of the two lent. A refusal leaves both as they were.
+// Reads a blob into the flat table and into the slice of records, and gives the number of nodes; 11 counts the shorter of the two lent. A refusal
+// leaves both as they were.
 pub fn read_records(
     kind: u32,
     counts: Counts,
     blob: &[u8],
     table: &mut [u32],
     records: &mut [Node],
-) -> Answer
-    ensures { ReadRecords kind counts blob.now table.old records.old result table.new records.new }
+) -> Result<usize, Fault>
+    ensures { ReadRecords kind counts blob.now table.old records.old (panel_of result) table.new records.new }
 {
-    let most = records.len();
-    let answer = read_within(kind, counts, blob, table, most);
-    let nodes = nodes_of(answer);
+    let nodes = read_within(kind, counts, blob, table, records.len())?;
     copy_records(table, records, nodes);
-    answer
+    Ok(nodes)
 }
 
 // Record i by way of a local array of records.
@@ -97,7 +90,8 @@ pub fn record_of(kind: u32, counts: Counts, blob: &[u8], table: &mut [u32], i: u
         return record_within(kind, counts, blob, table, i);
     }
     let found = record_within(kind, counts, blob, table, 0);
-    let answer = found.answer;
-    let node = BLANK;
-    Found { answer, node }
+    Found {
+        node: BLANK,
+        ..found
+    }
 }

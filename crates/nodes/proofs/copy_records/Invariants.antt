@@ -1,10 +1,7 @@
 -- `nodes::copy_records`: as many records are copied as were passed.
-use Rattle.std.proofs.Common.{◌≡◌, ◌≤◌, ◌-◌}
+use Rattle.std.proofs.Common.{◌≡◌}
 use Rattle.nodes.specs.Nodes.{copy_records}
 use Rattle.nodes.proofs.copy_records.Given as goal
 
 abbrev pub invariant-loop-i : goal.invariant-loop-i
-invariant-loop-i l = (l.i ≤ l.count) × (l.records ≡ copy_records l.table l.i l.initial.records)
-
-abbrev pub decreases-loop-i : goal.decreases-loop-i
-decreases-loop-i l = l.count - l.i
+invariant-loop-i l = l.records ≡ copy_records l.table l.i l.initial.records
