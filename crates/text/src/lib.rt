@@ -8,6 +8,9 @@ ghost use Rattle.text.specs.Numeral.{numeral, decimal};
 // No number of 64 bits has more digits.
 const MAX_DIGITS: usize = 20;
 
+// Kept: `out` and `to` as parameters. A struct of both says `Prints text self.old.to self.new.to self.old.out.now self.new.out.now` at each method, which is
+// longer, and its callers' proofs stay one lemma to a step.
+
 // One byte. The offset behind the greatest is the greatest.
 pub fn byte_to(out: &mut [u8], to: usize, b: u8) -> usize
     ensures { Prints (b ∷ []) to result out.old out.new }
