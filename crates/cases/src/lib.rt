@@ -1,4 +1,4 @@
-// What the programs that run cases share: printing, cases as rows of text, the bench's row counts and what lent memory is filled with.
+// What the programs that run cases share: forms that they print, cases as rows of text, the bench's row counts and what lent memory is filled with.
 #![tactic(auto)]
 
 use number::token::{Counts, row_counts};

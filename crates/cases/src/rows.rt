@@ -1,146 +1,54 @@
 // Cases of the reader as rows of text, one to a line: `KIND: BYTES`; with other row counts than the bench's `KIND DEFS REFS SPECS: BYTES`; with
 // other than the usual numbers lent `KIND DEFS REFS SPECS LENT: BYTES`. Numbers are decimal, bytes hexadecimal, and `XX*N` is N times the byte XX. A line
 // that starts with `#` says what follows.
-ghost use Rattle.std.specs.Prelude.{◌≤◌, ◌<◌, length};
-
 use crate::usual_counts;
 use number::token::{Counts, row_counts};
 
 // Bytes that are enough for the longest case.
 pub const LONGEST: usize = 8192;
 
-// A line: whether it has a case, the case but for its bytes, how many these are, and where the next line starts.
+// A blob of a kind, and what it is read with: row counts, and how many numbers are lent.
 #[derive(Clone, Copy)]
-pub struct Row {
-    pub case: bool,
+pub struct Case<'a> {
     pub kind: u32,
     pub counts: Counts,
     pub lent: usize,
-    pub length: usize,
-    pub next: usize,
+    pub blob: &'a [u8],
 }
 
-// The offset of the next `stop` from `at` on, or the end.
-fn until(s: &[u8], at: usize, stop: u8) -> usize
-    requires { at ≤ length s.now }
-    ensures { (at ≤ result) × (result ≤ length s.now) }
-{
-    for i in at..s.len() {
-        if s[i] == stop {
-            return i;
-        }
+// The byte of an item, and how often it comes.
+fn item_of(item: &str) -> Option<(u8, usize)> {
+    let (byte, times) = item.split_once('*').unwrap_or((item, "1"));
+    Some((u8::from_str_radix(byte, 16).ok()?, times.parse().ok()?))
+}
+
+// The bytes of the items, at the front of the room; none where it is too small.
+fn bytes_of<'a>(items: &str, room: &'a mut [u8]) -> Option<&'a [u8]> {
+    let mut length = 0;
+    for item in items.split_ascii_whitespace() {
+        let (byte, times) = item_of(item)?;
+        room.get_mut(length..)?.get_mut(..times)?.fill(byte);
+        length += times;
     }
-    s.len()
+    room.get(..length)
 }
 
-// The value of a digit, decimal or hexadecimal.
-fn digit(c: u8) -> u64 {
-    if c <= b'9' {
-        return (c % 16) as u64;
+// The case of a line, its bytes put into the room; `lent` is how many numbers are lent where the line does not say.
+pub fn case_of<'a>(line: &str, lent: u32, room: &'a mut [u8]) -> Option<Case<'a>> {
+    if line.starts_with('#') {
+        return None;
     }
-    (c % 16 + 9) as u64
-}
-
-fn decimal(s: &[u8]) -> u64 {
-    let mut n: u64 = 0;
-    for c in s {
-        n = n % 0x100000000 * 10 + digit(*c) % 16;
-    }
-    n
-}
-
-fn put(values: &mut [u32], k: usize, n: u64) {
-    if k < values.len() {
-        if n <= 0xFFFFFFFF {
-            values[k] = n as u32;
-        }
-    }
-}
-
-// The numbers before the colon, in place of the first values.
-fn head(s: &[u8], values: &mut [u32]) {
-    let mut k = 0;
-    let mut at = 0;
-    while at < s.len() {
-        let end = until(s, at, b' ');
-        put(values, k, decimal(&s[at..end]));
-        k += 1;
-        at = end + 1;
-    }
-}
-
-// Appends a byte n times, as far as there is room.
-fn fill(blob: &mut [u8], len: usize, byte: u8, n: u64) -> usize {
-    let mut at = len;
-    for _ in 0..n {
-        if blob.len() <= at {
-            return at;
-        }
-        blob[at] = byte;
-        at += 1;
-    }
-    at
-}
-
-// Appends an item: `XX`, or `XX*N`.
-fn item(s: &[u8], blob: &mut [u8], len: usize) -> usize {
-    if s.len() < 2 {
-        return len;
-    }
-    let byte = (digit(s[0]) % 16 * 16 + digit(s[1]) % 16) as u8;
-    if s.len() < 4 {
-        return fill(blob, len, byte, 1);
-    }
-    fill(blob, len, byte, decimal(&s[3..]))
-}
-
-// The bytes behind the colon, and how many.
-fn bytes(s: &[u8], blob: &mut [u8]) -> usize {
-    let mut len = 0;
-    let mut at = 0;
-    while at < s.len() {
-        let end = until(s, at, b' ');
-        len = item(&s[at..end], blob, len);
-        at = end + 1;
-    }
-    len
-}
-
-fn size(n: u32) -> usize {
-    n as usize
-}
-
-// Whether a line has a case.
-fn is_case(s: &[u8]) -> bool {
-    if s.len() == 0 {
-        return false;
-    }
-    s[0] != b'#'
-}
-
-// The numbers of a case in place of the first values, its bytes in the blob, and how many these are.
-fn decode(s: &[u8], values: &mut [u32], blob: &mut [u8]) -> usize {
-    let colon = until(s, 0, b':');
-    head(&s[..colon], values);
-    bytes(&s[colon..], blob)
-}
-
-// The line that starts at `at`; its bytes are put into the blob. `lent` is how many numbers are lent where it does not say.
-pub fn row_at(text: &[u8], at: usize, lent: u32, blob: &mut [u8]) -> Row
-    requires { at ≤ length text.now }
-    ensures { at < result.next }
-{
-    let end = until(text, at, b'\n');
+    let (numbers, items) = line.split_once(':')?;
     let usual = usual_counts();
     let mut values = [0, usual.defs, usual.refs, usual.specs, lent];
-    let line = &text[at..end];
-    let length = decode(line, &mut values, blob);
-    Row {
-        case: is_case(line),
-        kind: values[0],
-        counts: row_counts(values[1], values[2], values[3]),
-        lent: size(values[4]),
-        length,
-        next: end + 1,
+    for (value, number) in values.iter_mut().zip(numbers.split(' ')) {
+        *value = number.parse().ok()?;
     }
+    let [kind, defs, refs, specs, lent] = values;
+    Some(Case {
+        kind,
+        counts: row_counts(defs, refs, specs),
+        lent: lent as usize,
+        blob: bytes_of(items, room)?,
+    })
 }

@@ -1,7 +1,7 @@
 // The panel: reads a deposit sheet from the file that its argument names, or from standard input, and prints its rows and acknowledgements.
 #![tactic(auto)]
 
-ghost use Rattle.std.specs.Prelude.{◌≡◌, length};
+ghost use Rattle.std.specs.Prelude.{◌≡◌, ◌≤◌, IfOk, length};
 
 use sheet::MAX_SHEET;
 use std::env::FillError;
@@ -36,7 +36,10 @@ impl fmt::Display for Failure<'_> {
 }
 
 // Reads until the buffer is full or the input ends, and gives how many bytes were read.
-fn fill(input: &mut impl Read, buf: &mut [u8]) -> io::Result<usize> {
+// Kept: std's `read_exact` does not say how many bytes there were, `read_to_end` allocates, and `io::copy` promises no bound on its count.
+fn fill(input: &mut impl Read, buf: &mut [u8]) -> io::Result<usize>
+    ensures { IfOk result (λ n. n ≤ length buf.new) }
+{
     let mut done = 0;
     while done < buf.len() {
         let n = input.read(&mut buf[done..])?;
@@ -49,36 +52,22 @@ fn fill(input: &mut impl Read, buf: &mut [u8]) -> io::Result<usize> {
 }
 
 // Room for a print; that its length is known is all that is said of it.
+// Kept: where the array stands in `run` itself, the check unfolds its 1,048,576 bytes and gives up.
 fn blank_print() -> [u8; PRINT]
     ensures { 1048576 ≡ length result }
 {
     [0; PRINT]
 }
 
-// Writes the first n bytes of the room for a print.
-fn write_front(rt: &impl Print, out: &[u8], n: usize) -> Result<(), Failure<'static>> {
-    if out.len() < n {
-        return Err(Failure::TooLong);
-    }
-    rt.write_all(&out[..n]).map_err(|reason| Failure::Io {
-        name: "standard output",
-        reason,
-    })
-}
-
 // Runs a sheet and writes its print.
 fn run(rt: &impl Print, bytes: &[u8]) -> Result<(), Failure<'static>> {
     let mut out = blank_print();
     let answer = sheet::run_sheet(bytes, &mut out);
-    write_front(rt, &out, answer.place)
-}
-
-// Runs the first n bytes that were read.
-fn run_front(rt: &impl Print, bytes: &[u8], n: usize) -> Result<(), Failure<'static>> {
-    if n <= bytes.len() {
-        run(rt, &bytes[..n])?;
-    }
-    Ok(())
+    let print = out.get(..answer.place).ok_or(Failure::TooLong)?;
+    rt.write_all(print).map_err(|reason| Failure::Io {
+        name: "standard output",
+        reason,
+    })
 }
 
 // Runs the sheet that an input of this name gives.
@@ -88,18 +77,14 @@ fn read_and_run<'a>(
     name: &'a str,
 ) -> Result<(), Failure<'a>> {
     let mut bytes = [0u8; SHEET];
-    match fill(input, &mut bytes) {
-        Ok(n) => run_front(rt, &bytes, n),
-        Err(reason) => Err(Failure::Io { name, reason }),
-    }
+    let n = fill(input, &mut bytes).map_err(|reason| Failure::Io { name, reason })?;
+    run(rt, &bytes[..n])
 }
 
 // Runs the sheet in a file.
 fn run_file<'a>(rt: &(impl Files + Print), name: &'a str) -> Result<(), Failure<'a>> {
-    match fs::open(rt, name) {
-        Ok(mut file) => read_and_run(rt, &mut file, name),
-        Err(reason) => Err(Failure::Io { name, reason }),
-    }
+    let mut file = fs::open(rt, name).map_err(|reason| Failure::Io { name, reason })?;
+    read_and_run(rt, &mut file, name)
 }
 
 fn bad_name(reason: &str) -> Failure<'static> {
@@ -115,10 +100,10 @@ fn run_argument<'a>(
     room: &'a mut [u8],
 ) -> Result<(), Failure<'a>> {
     match rt.arg(1, room) {
-        Ok(n) => match str::from_utf8(&room[..n]) {
-            Ok(name) => run_file(rt, name),
-            Err(_) => Err(bad_name("not UTF-8")),
-        },
+        Ok(n) => {
+            let name = str::from_utf8(&room[..n]).map_err(|_| bad_name("not UTF-8"))?;
+            run_file(rt, name)
+        }
         Err(FillError::TooLong) => Err(bad_name("too long")),
         Err(FillError::NotPresent) => read_and_run(rt, &mut rt.reader(), "standard input"),
     }

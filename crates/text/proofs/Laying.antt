@@ -1,20 +1,27 @@
 -- Laws of `next_offset`, `further`, `laid` and `Prints`.
 -- Assumes nothing.
-use Prim.Native.Nat.{ℕ, zero, suc, ◌+◌, ◌<◌, ◌≤◌}
+use Prim.Native.Nat.{ℕ, zero, suc, ◌+◌, ◌<◌, ◌≤◌, min}
 use mathlib.Core.Path.{◌≡◌, refl, sym, ap, ◌∙◌, subst}
-use mathlib.Core.Bool.{cond}
+use mathlib.Core.Bool.{Bool, true, false, cond}
 use mathlib.Core.List.{List, [], ◌∷◌, ◌++◌}
 use native.Mathlib.Omega.{arith}
 use native.Mathlib.Numerals.{add-one}
-use lib.ListN.{length, get_or, set, drop, length-append, drop_of_length-le}
-use lib.Seq.{drop-cons, sets}
+use lib.ListN.{length, get_or, set, take, length-append}
+use lib.Dec.{ltb}
+use lib.Seq.{sets}
 use borrow.Author.Tests.{lt-ltb}
+use Rattle.std.proofs.lemmas.Bool.Decides.{nat_tests}
+use Rattle.std.proofs.lemmas.List.{take_more}
 use Rattle.text.specs.Printing.{max_offset, next_offset, further, laid, Prints}
 
-pub set_past : (l : List ℕ) (i b : ℕ) → length l ≤ i → l ≡ set l i b
-set_past [] i b h = refl
-set_past (x ∷ l) zero b h = absurd (omega arith)
-set_past (x ∷ l) (suc i) b h = ap (λ t. x ∷ t) (set_past l i b (omega arith))
+-- the offset behind one that is no greater than the greatest
+pub saturates : (to : ℕ) → to ≤ max_offset → min (to + 1) max_offset ≡ next_offset to
+unfolding next_offset
+saturates to h = go (ltb to max_offset) refl
+  where
+    go : (b : Bool) → ltb to max_offset ≡ b → min (to + 1) max_offset ≡ cond b (to + 1) to
+    go true e = grind (arith, nat_tests)
+    go false e = grind (arith, nat_tests)
 
 pub further-add : (j k to : ℕ) → further to (j + k) ≡ further (further to j) k
 unfolding further
@@ -48,14 +55,11 @@ pub prints_more : (b : ℕ) (text : List ℕ) (to q : ℕ) (old : List ℕ) {r :
     → Prints text r q mid new → Prints (b ∷ text) to q old new
 prints_more b text to q old new p t = prints_then (b ∷ []) text to _ q old _ new p t
 
--- byte i of a text is put: what prints the rest from there prints all
-pub text_step : (text : List ℕ) (i : ℕ) → i < length text → (to q : ℕ) (old : List ℕ) {r : ℕ} {mid : List ℕ} (new : List ℕ)
-    → Prints (get_or text i 0 ∷ []) to r old mid → Prints (drop (i + 1) text) r q mid new → Prints (drop i text) to q old new
-text_step text i h to q old {r} {mid} new p t =
-    subst (λ l. Prints l to q old new) (sym (drop-cons text i 0 h)) (prints_more _ _ to q old new p (subst (λ k. Prints (drop k text) r q mid new) (add-one i) t))
-
-pub text_end : (text : List ℕ) (i : ℕ) → length text ≤ i → (to : ℕ) (out : List ℕ) → Prints (drop i text) to to out out
-text_end text i h to out = subst (λ l. Prints l to to out out) (sym (drop_of_length-le text h)) (prints_none to out)
+-- what prints the front of a text, then its next byte, prints one byte more of it
+pub prints_next : (text : List ℕ) (i : ℕ) → i < length text → (to r q : ℕ) (old mid new : List ℕ)
+    → Prints (take i text) to r old mid → Prints (get_or text i 0 ∷ []) r q mid new → Prints (take (i + 1) text) to q old new
+prints_next text i h to r q old mid new p t =
+    subst (λ l. Prints l to q old new) (sym (take_more text i 0 h)) (prints_then _ _ to r q old mid new p t)
 
 -- where there is an offset for every byte, laying is setting them one after the other
 pub laid-sets : (text out : List ℕ) (to : ℕ) → to + length text ≤ max_offset → laid out to text ≡ sets out to text

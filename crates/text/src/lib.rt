@@ -1,34 +1,24 @@
 // Bytes and numerals over lent output: each function lays its text from an offset on, as far as the output reaches, and gives the offset behind it.
 #![tactic(auto)]
 
-ghost use Rattle.std.specs.Prelude.{◌≡◌, [], ◌∷◌};
-ghost use Rattle.text.specs.Printing.{next_offset, Prints};
+ghost use Rattle.std.specs.Prelude.{[], ◌∷◌};
+ghost use Rattle.text.specs.Printing.{Prints};
 ghost use Rattle.text.specs.Numeral.{numeral, decimal};
-
-const MAX_OFFSET: usize = 0xFFFFFFFFFFFFFFFF;
 
 // No number of 64 bits has more digits.
 const MAX_DIGITS: usize = 20;
 
-// The offset behind this one; the greatest has none.
-fn next_offset(to: usize) -> usize
-    ensures { result ≡ next_offset to }
-{
-    if to < MAX_OFFSET {
-        return to + 1;
-    }
-    to
-}
+// Kept: `out` and `to` as parameters. A struct of both says `Prints text self.old.to self.new.to self.old.out.now self.new.out.now` at each method, which is
+// longer, and its callers' proofs stay one lemma to a step.
 
-// One byte.
+// One byte. The offset behind the greatest is the greatest.
 pub fn byte_to(out: &mut [u8], to: usize, b: u8) -> usize
     ensures { Prints (b ∷ []) to result out.old out.new }
 {
     if to < out.len() {
         out[to] = b;
-        return next_offset(to);
     }
-    next_offset(to)
+    to.saturating_add(1)
 }
 
 // Some bytes.
@@ -36,10 +26,8 @@ pub fn text_to(out: &mut [u8], to: usize, text: &[u8]) -> usize
     ensures { Prints text.now to result out.old out.new }
 {
     let mut here = to;
-    let mut i = 0;
-    while i < text.len() {
-        here = byte_to(out, here, text[i]);
-        i += 1;
+    for b in text {
+        here = byte_to(out, here, *b);
     }
     here
 }

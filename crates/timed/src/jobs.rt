@@ -1,8 +1,5 @@
 // The jobs that are timed.
-ghost use Rattle.std.specs.Prelude.{◌<◌};
-ghost use Rattle.answer.specs.Size.{max_size};
-
-use crate::graphs::{Graph, Sets, type_of};
+use crate::graphs::{Graph, Random, type_of};
 use number::checked::Checked;
 use number::token::row_counts;
 use register::{MAX_SIZE, Register, WORDS};
@@ -15,10 +12,11 @@ const NUMBER_ROUNDS: usize = 10000;
 fn sum_of(s: &[u8]) -> u64 {
     let mut sum: u64 = 0;
     let mut at = 0;
+    // Kept: where a number ends is known only when it has been read.
     while at < s.len() {
         match number::checked::checked_at(s, at) {
             Checked::Good { value, next } => {
-                sum = sum.wrapping_add(value as u64);
+                sum = sum.wrapping_add(u64::from(value));
                 at = next;
             }
             Checked::Bad { refusal: _ } => return sum,
@@ -29,96 +27,47 @@ fn sum_of(s: &[u8]) -> u64 {
 
 pub fn numbers() -> u64 {
     let bytes = [5u8; NUMBERS];
-    let mut sum: u64 = 0;
-    for _ in 0..NUMBER_ROUNDS {
-        sum = sum % 0x100000000 + sum_of(&bytes) % 0x100000000;
-    }
-    sum
+    (0..NUMBER_ROUNDS).fold(0u64, |sum, _| sum.wrapping_add(sum_of(&bytes)))
 }
 
 // Row 32, counted from 0: it has a mark while rows are filed.
 const MARKED: usize = 31;
 
-// A register after a filing, and where the random numbers stand.
-#[derive(Clone, Copy)]
-struct Filed {
-    register: Register,
-    seed: u64,
-}
-
-// A register after all its rows were filed, and how many of the filings left the mark.
-#[derive(Clone, Copy)]
-struct Round {
-    register: Register,
-    kept: u64,
-}
-
-// Files for row i, counted from 0, its type.
-fn file(g: Register, graph: Graph, rows: usize, i: usize, seed: u64, sets: &mut Sets) -> Filed
-    requires { (i < rows) × (i < max_size) }
-{
-    let made = type_of(graph, rows, i, seed);
-    let blob = made.blob;
-    let length = made.length;
-    let changed = register::file(g, i + 1, &blob[..length], sets);
-    let register = changed.register;
-    Filed {
-        register,
-        seed: made.seed,
-    }
-}
-
-// Files each row, one after the other, its type; before each filing row 32 gets this mark.
-fn file_all(g: Register, graph: Graph, mark: u8, sets: &mut Sets) -> Round {
+// Files each row, one after the other, its type; before each filing row 32 gets this mark. Gives how many of the filings left the mark.
+fn file_all(g: &mut Register, graph: Graph, mark: u8, sets: &mut [u32]) -> u64 {
     let rows = g.counts.specs as usize;
-    let mut register = g;
-    let mut seed: u64 = 1;
+    let mut random = Random::new();
     let mut kept: u64 = 0;
-    for i in 0..MAX_SIZE {
-        if i < rows {
-            register.marks[MARKED] = mark;
-            let filed = file(register, graph, rows, i, seed, sets);
-            register = filed.register;
-            seed = filed.seed;
-            if register.marks[MARKED] != 0 {
-                kept = kept % 0x100000000 + 1;
-            }
+    for row in 1..=rows {
+        g.marks[MARKED] = mark;
+        let blob = type_of(graph, rows, row, &mut random);
+        *g = register::file(*g, row, blob.as_slice(), sets).register;
+        if g.marks[MARKED] != 0 {
+            kept = kept.saturating_add(1);
         }
     }
-    Round { register, kept }
+    kept
 }
 
 // A register of so many rows, all filed.
-fn filled(graph: Graph, rows: u32, sets: &mut Sets) -> Register {
-    let opened = register::open(row_counts(0, 0, rows), sets);
-    file_all(opened.register, graph, 0, sets).register
-}
-
-fn ask(g: Register, row: usize, sets: &Sets) -> u32 {
-    register::ask(g, row, sets).standing
+fn filled(graph: Graph, rows: u32, sets: &mut [u32]) -> Register {
+    let mut g = register::open(row_counts(0, 0, rows), sets).register;
+    file_all(&mut g, graph, 0, sets);
+    g
 }
 
 // Asks each row, one after the other.
-fn ask_all(g: Register, sets: &Sets) -> u64 {
-    let rows = g.counts.specs as usize;
-    let mut sum: u64 = 0;
-    for i in 0..MAX_SIZE {
-        if i < rows {
-            sum = sum % 0x100000000 + ask(g, i + 1, sets) as u64;
-        }
-    }
-    sum
+fn ask_all(g: Register, sets: &[u32]) -> u64 {
+    (1..=g.counts.specs as usize).fold(0u64, |sum, row| {
+        sum.wrapping_add(u64::from(register::ask(g, row, sets).standing))
+    })
 }
 
 // Asks each row so many times.
 pub fn asks(graph: Graph, rows: u32, rounds: u32) -> u64 {
     let mut sets = [0u32; MAX_SIZE * WORDS];
     let g = filled(graph, rows, &mut sets);
-    let mut sum: u64 = 0;
-    for _ in 0..rounds {
-        sum = sum % 0x100000000 + ask_all(g, &sets) % 0x100000000;
-    }
-    sum
+    (0..rounds).fold(0u64, |sum, _| sum.wrapping_add(ask_all(g, &sets)))
 }
 
 // Files each row so many times again, each time with row 32 marked, so that the rows that reach the filed one are looked for.
@@ -127,9 +76,7 @@ pub fn files(graph: Graph, rows: u32, rounds: u32) -> u64 {
     let mut g = filled(graph, rows, &mut sets);
     let mut kept: u64 = 0;
     for _ in 0..rounds {
-        let round = file_all(g, graph, 1, &mut sets);
-        g = round.register;
-        kept = kept % 0x100000000 + round.kept % 0x100000000;
+        kept = kept.saturating_add(file_all(&mut g, graph, 1, &mut sets));
     }
     kept
 }

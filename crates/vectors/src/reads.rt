@@ -3,10 +3,7 @@ use crate::answers::show_rows;
 use std::io;
 
 // Document 01's bench.
-fn worked_blobs(rt: &impl Print) -> io::Result<()> {
-    show_rows(
-        rt,
-        b"
+const WORKED: &str = "
 # The rows marked with a star.
 1: 06 08
 1: 06
@@ -37,15 +34,10 @@ fn worked_blobs(rt: &impl Print) -> io::Result<()> {
 2: 07 83 FF 08*1023
 2: 07 84 00 08*1024
 4: 00 83 FE 01 08*1022
-",
-    )
-}
+";
 
 // Every production of the grammar.
-fn accepted(rt: &impl Print) -> io::Result<()> {
-    show_rows(
-        rt,
-        b"
+const ACCEPTED: &str = "
 # Every production of a type.
 0: 01
 0: 16
@@ -75,15 +67,10 @@ fn accepted(rt: &impl Print) -> io::Result<()> {
 4: 30 02 00 16
 4: 70 01 00 20 06 10 1D 08
 4: 65 00 16
-",
-    )
-}
+";
 
 // A dozen refusals of each number from 1 to 13.
-fn refused(rt: &impl Print) -> io::Result<()> {
-    show_rows(
-        rt,
-        b"
+const REFUSED: &str = "
 # 1: a blob over 4,096 bytes.
 0: 1D*4097
 1: 06*4097
@@ -286,12 +273,11 @@ fn refused(rt: &impl Print) -> io::Result<()> {
 0 0 18 1 6: 08
 1 0 18 1 0: 06 08 08
 1 0 18 1 3: 06
-",
-    )
-}
+";
 
 pub fn run(rt: &impl Print) -> io::Result<()> {
-    worked_blobs(rt)?;
-    accepted(rt)?;
-    refused(rt)
+    for text in [WORKED, ACCEPTED, REFUSED] {
+        show_rows(rt, text)?;
+    }
+    Ok(())
 }
