@@ -13,8 +13,9 @@ use Rattle.number.specs.Number.{encode, put_at}
 use Rattle.number.proofs.Encodes.{encode-1, put-fits}
 use Rattle.grammar.specs.Emit.{Emitted, torn, wrote, and_then, times, emit}
 use Rattle.emission.specs.Emission.{Spelt, put, cut, followed, result_of, leaves_of, Emits, Parted}
-use Rattle.emission.specs.declared.Emit.{Emit}
-use Rattle.emission.specs.declared.Emit.TheVariants.{Next, Stop}
+use Rattle.emission.specs.End.{Emit, Next, Stop}
+use Rattle.grammar.specs.declared.Position.{Position}
+use Rattle.std.specs.Prelude.{Option, Some, None}
 use Rattle.emission.specs.declared.Part.{Part}
 
 -- an emission does not both stop and go on
@@ -116,57 +117,72 @@ emits_past (wrote bs n) at o h = emits_over bs n at o o (omega arith) refl
 -- ---- bytes in a row
 
 module _ (v at : ℕ) (o : List ℕ) where
-  pub number_cut : (r : ℕ) → length o < at + length (encode v) → r ≡ length o + 1 → Spelt (encode v) at r o o
-  number_cut r h e = cut h e refl
+  pub number_cut : length o < at + length (encode v) → Spelt (encode v) at None o o
+  number_cut h = cut h refl refl
 
-  pub number_put : (r : ℕ) (o₁ : List ℕ) → at + length (encode v) ≤ length o → r ≡ at + length (encode v) → o₁ ≡ put_at o at (encode v) → Spelt (encode v) at r o o₁
-  number_put r o₁ h e p = put h e (p ∙ sym (put-fits o at (encode v) h))
+  pub number_put : (r : ℕ) (o₁ : List ℕ) → at + length (encode v) ≤ length o → r ≡ at + length (encode v) → o₁ ≡ put_at o at (encode v) → Spelt (encode v) at (Some r) o o₁
+  number_put r o₁ h e p = put h (ap Some e) (p ∙ sym (put-fits o at (encode v) h))
 
   -- a number of one byte
   module _ (s : v < 0x80) where
-    pub byte_put : (r : ℕ) (o₁ : List ℕ) → at < length o → r ≡ at + 1 → o₁ ≡ set o at v → Spelt (encode v) at r o o₁
-    byte_put r o₁ h e p = rw (encode-1 v s) (put (omega arith) e p)
+    pub byte_put : (o₁ : List ℕ) → at < length o → o₁ ≡ set o at v → Spelt (encode v) at (Some (at + 1)) o o₁
+    byte_put o₁ h p = rw (encode-1 v s) (put (omega arith) refl p)
 
-    pub byte_cut : (r : ℕ) → length o ≤ at → r ≡ length o + 1 → Spelt (encode v) at r o o
-    byte_cut r h e = rw (encode-1 v s) (cut (omega arith) e refl)
+    pub byte_cut : length o ≤ at → Spelt (encode v) at None o o
+    byte_cut h = rw (encode-1 v s) (cut (omega arith) refl refl)
 
-module _ {bs : List ℕ} {at e : ℕ} {o o₁ : List ℕ} where
-  spelt_kept : Spelt bs at e o o₁ → length o₁ ≡ length o
-  spelt_kept (put h i j) = ap length j ∙ length-sets o at bs
-  spelt_kept (cut h i j) = j
+pub spelt_is : {bs cs : List ℕ} {at : ℕ} {r : Option ℕ} {o o₁ : List ℕ} → bs ≡ cs → Spelt bs at r o o₁ → Spelt cs at r o o₁
+spelt_is {at = at} {r} {o} {o₁} x y = subst (λ (l : List ℕ). Spelt l at r o o₁) x y
 
-  pub spelt_is : {cs : List ℕ} → bs ≡ cs → Spelt bs at e o o₁ → Spelt cs at e o o₁
-  spelt_is x y = subst (λ (l : List ℕ). Spelt l at e o o₁) x y
+pub spelt_as : {bs : List ℕ} {at : ℕ} {r r' : Option ℕ} {o o₁ : List ℕ} → r' ≡ r → Spelt bs at r o o₁ → Spelt bs at r' o o₁
+spelt_as {bs} {at} {r} {r'} {o} {o₁} e y = subst (λ (x : Option ℕ). Spelt bs at x o o₁) (sym e) y
 
-  pub spelt_more : {cs : List ℕ} {r : ℕ} {o₂ : List ℕ} → Spelt bs at e o o₁ → Spelt cs e r o₁ o₂ → Spelt (bs ++ cs) at r o o₂
-  spelt_more {cs} {r} {o₂} x y = go x y
+-- all of them fitted, and e is the offset after them
+pub record Fitted (bs : List ℕ) (at e : ℕ) (o o₁ : List ℕ) : Type 0 where
+  pub inside : at + length bs ≤ length o
+  pub next : e ≡ at + length bs
+  pub stored : o₁ ≡ sets o at bs
+  pub kept : length o₁ ≡ length o
+
+pub fitted : {bs : List ℕ} {at e : ℕ} {o o₁ : List ℕ} → Spelt bs at (Some e) o o₁ → Fitted bs at e o o₁
+fitted {bs} {at} {e} {o} (put h i j) = let z : e ≡ at + length bs = cc in record { inside = h; next = z; stored = j; kept = ap length j ∙ length-sets o at bs }
+fitted (cut h i j) = absurd cc
+
+pub spelt_within : {bs : List ℕ} {at e : ℕ} {o o₁ : List ℕ} → Spelt bs at (Some e) o o₁ → e ≤ length o₁
+spelt_within x = let f = fitted x in omega (arith, f.inside, f.next, f.kept)
+
+module _ {bs : List ℕ} {at : ℕ} {o o₁ : List ℕ} where
+  -- bytes that did not fit, and others behind them
+  pub spelt_cut : (cs : List ℕ) → Spelt bs at None o o₁ → Spelt (bs ++ cs) at None o o₁
+  spelt_cut cs (put h i j) = absurd cc
+  spelt_cut cs (cut h i j) = cut (omega (arith, length-append bs cs)) refl j
+
+  pub spelt_more : {cs : List ℕ} {e : ℕ} {r : Option ℕ} {o₂ : List ℕ} → Spelt bs at (Some e) o o₁ → Spelt cs e r o₁ o₂ → Spelt (bs ++ cs) at r o o₂
+  spelt_more {cs} {e} {r} {o₂} x y = go (fitted x) y
     where
       long : length (bs ++ cs) ≡ length bs + length cs
       long = length-append bs cs
 
-      go : Spelt bs at e o o₁ → Spelt cs e r o₁ o₂ → Spelt (bs ++ cs) at r o o₂
-      go (put h i j) (put f g k) = put (omega (arith, long, spelt_kept x)) (omega (arith, long)) (k ∙ rw (i, j) (sets-append bs cs o at))
-      go (put h i j) (cut f g k) = cut (omega (arith, long, spelt_kept x)) (g ∙ ap (λ (l : ℕ). l + 1) (spelt_kept x)) (k ∙ spelt_kept x)
-      go (cut h i j) (put f g k) = absurd (omega arith)
-      go (cut h i j) (cut f g k) = cut (omega (arith, long)) (g ∙ ap (λ (l : ℕ). l + 1) j) (k ∙ j)
+      go : Fitted bs at e o o₁ → Spelt cs e r o₁ o₂ → Spelt (bs ++ cs) at r o o₂
+      go f (put h i j) =
+          let z : e + length cs ≡ at + length (bs ++ cs) = omega (arith, long, f.next) in
+          put (omega (arith, long, f.kept, f.next)) (i ∙ ap Some z) (j ∙ rw (f.next, f.stored) (sets-append bs cs o at))
+      go f (cut h i j) = cut (omega (arith, long, f.kept, f.next)) i (j ∙ f.kept)
 
   -- bytes, and then what was emitted from the offset that they gave
-  pub spelt_then : (k : ℕ → Emitted) (n : ℕ) {r : Emit} {o₂ : List ℕ} → Spelt bs at e o o₁ → Emits (k n) e r o₁ o₂ → Emits (followed (wrote bs n) k) at r o o₂
-  unfolding followed result_of leaves_of
-  spelt_then k n {r} {o₂} x y = go x
-    where
-      over_end : (q : Emitted) → length o < at + length bs → e ≡ length o + 1 → length o₁ ≡ length o → Emits q e r o₁ o₂
-          → Emits (and_then q (λ cs m. wrote (bs ++ cs) m)) at r o o₂
-      over_end torn h i j z = record { result = z.result; left = tt; kept = z.kept ∙ j }
-      over_end (wrote cs m) h i j z = by_fit (fit cs m e (length o₁) r z.result)
-        where
-          by_fit : Fit cs e (length o₁) r (Next (e + length cs) m) → Emits (wrote (bs ++ cs) m) at r o o₂
-          by_fit (fits g w) = absurd (omega arith)
-          by_fit (over g w) = found _ at Stop r o o₂ (sym w) (emits_over (bs ++ cs) m at o o₂ (omega (arith, length-append bs cs)) (z.kept ∙ j))
+  pub spelt_then : (k : ℕ → Emitted) (n : ℕ) {e : ℕ} {r : Emit} {o₂ : List ℕ} → Spelt bs at (Some e) o o₁ → Emits (k n) e r o₁ o₂ → Emits (followed (wrote bs n) k) at r o o₂
+  unfolding followed
+  spelt_then k n {e} {r} {o₂} x y = let f = fitted x in emits_after (k n) bs at r o o₁ o₂ f.kept f.stored (rw f.next at y)
 
-      go : Spelt bs at e o o₁ → Emits (followed (wrote bs n) k) at r o o₂
-      go (put h i j) = emits_after (k n) bs at r o o₁ o₂ (spelt_kept x) j (rw i at y)
-      go (cut h i j) = over_end (k n) h i j y
+  -- none behind bytes that did not fit
+  pub spelt_over : (k : ℕ → Emitted) (n : ℕ) → Spelt bs at None o o₁ → Emits (followed (wrote bs n) k) at Stop o o₁
+  unfolding followed result_of leaves_of
+  spelt_over k n (put h i j) = absurd cc
+  spelt_over k n (cut h i j) = rest (k n)
+    where
+      rest : (q : Emitted) → Emits (and_then q (λ cs m. wrote (bs ++ cs) m)) at Stop o o₁
+      rest torn = record { result = refl; left = tt; kept = j }
+      rest (wrote cs m) = emits_over (bs ++ cs) m at o o₁ (omega (arith, length-append bs cs)) j
 
 -- an emission that went on ended inside the buffer
 pub next_within : (q : Emitted) (at e n : ℕ) (o o₁ : List ℕ) → Emits q at (Next e n) o o₁ → e ≤ length o₁
@@ -217,12 +233,12 @@ pub last_one : (item : ℕ → Emitted) (left m e : ℕ) (r : Emit) (o o₁ : Li
 last_one item left m e r o o₁ h x = rw h (emits_is _ _ e r o o₁ (times-one item m) x)
 
 -- a record's part as a match found it
-module _ (d : ℕ) (t : List ℕ) (n at : ℕ) (y : Part) (o o₁ : List ℕ) where
-  pub part_goes : (f k : ℕ) → Parted d t n at y o o₁ → y ≡ Part.Goes f k → Parted d t n at (Part.Goes f k) o o₁
-  part_goes f k x g = subst (λ (z : Part). Parted d t n at z o o₁) g x
+module _ (d : ℕ) (t : List ℕ) (n at : ℕ) (y : Option Part) (o o₁ : List ℕ) where
+  pub part_goes : (f k : ℕ) → Parted d t n at y o o₁ → y ≡ Some (Part.Goes f k) → Parted d t n at (Some (Part.Goes f k)) o o₁
+  part_goes f k x g = subst (λ (z : Option Part). Parted d t n at z o o₁) g x
 
-  pub part_ends : (e m : ℕ) → Parted d t n at y o o₁ → y ≡ Part.Ends e m → Emits (emit d t n) at (Next e m) o o₁
-  part_ends e m x g = subst (λ (z : Part). Parted d t n at z o o₁) g x
+  pub part_ends : (p : Position) → Parted d t n at y o o₁ → y ≡ Some (Part.Ends p) → Emits (emit d t n) at (Next p.at p.node) o o₁
+  part_ends p x g = subst (λ (z : Option Part). Parted d t n at z o o₁) g x
 
-  pub part_stop : Parted d t n at y o o₁ → y ≡ Part.Stop → Emits (emit d t n) at Stop o o₁
-  part_stop x g = subst (λ (z : Part). Parted d t n at z o o₁) g x
+  pub part_stop : Parted d t n at y o o₁ → y ≡ None → Emits (emit d t n) at Stop o o₁
+  part_stop x g = subst (λ (z : Option Part). Parted d t n at z o o₁) g x

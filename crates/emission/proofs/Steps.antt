@@ -14,9 +14,9 @@ use Rattle.grammar.specs.Table.{METHOD, FIELD, LOCALS, PROPERTY, SIZE, LOW, reco
 use Rattle.grammar.specs.Emit.{Layout, plain, array, callable, layouts, layout_in, layout_of, lows_of, param_count, parts_of, Emitted, torn, wrote, and_then, times, parts, emit}
 use Rattle.grammar.specs.declared.Node.{Node}
 use Rattle.emission.specs.Emission.{front_of, Spelt, followed, result_of, Emits}
-use Rattle.emission.specs.declared.Emit.{Emit}
-use Rattle.emission.specs.declared.Emit.TheVariants.{Next, Stop}
-use Rattle.emission.proofs.Laws.{clash, Fit, fits, over, fit, emits_torn, emits_stop, emits_next, emits_is, found, spelt_is, spelt_then}
+use Rattle.emission.specs.End.{Emit, Next, Stop}
+use Rattle.std.specs.Prelude.{Option, Some, None}
+use Rattle.emission.proofs.Laws.{clash, Fit, fits, over, fit, emits_torn, emits_stop, emits_next, emits_is, found, spelt_is, spelt_then, spelt_over}
 
 -- ---- call_to and front_to
 
@@ -84,7 +84,7 @@ module _ (t : List ℕ) (n : ℕ) (r : Node) where
   front_locals = refl
 
   -- by the kind that was found
-  pub spelt_front : (k : ℕ) {vs : List ℕ} {at e : ℕ} {o o₁ : List ℕ} → r.kind ≡ k → Front vs k → Spelt vs at e o o₁ → Spelt (front_of (layout_of r.kind) t n r) at e o o₁
+  pub spelt_front : (k : ℕ) {vs : List ℕ} {at : ℕ} {e : Option ℕ} {o o₁ : List ℕ} → r.kind ≡ k → Front vs k → Spelt vs at e o o₁ → Spelt (front_of (layout_of r.kind) t n r) at e o o₁
   spelt_front k h x y = spelt_is (x ∙ ap (λ (i : ℕ). front_of (layout_of i) t n r) (sym h)) y
 
 -- ---- parts: bytes, then subtrees
@@ -163,7 +163,7 @@ module _ (d : ℕ) (t : List ℕ) (n at : ℕ) where
     emit-array k x = emits_is _ _ at r o o₁ (inside ∙ ap (λ (i : ℕ). parts (emit (d - 1) t) (parts_of (layout_of i) t n node) (n + 1)) k) x
 
     -- f: the offset after the bytes, s: the buffer with them
-    pub emit-part : (f : ℕ) (s : List ℕ) → (node.kind ≡ 0x14 → ⊥) → Spelt (front_of (layout_of node.kind) t n node) at f o s
+    pub emit-part : (f : ℕ) (s : List ℕ) → (node.kind ≡ 0x14 → ⊥) → Spelt (front_of (layout_of node.kind) t n node) at (Some f) o s
         → Emits (times (emit (d - 1) t) node.children (n + 1)) f r s o₁ → Emits (emit d t n) at r o o₁
     unfolding layout_of one-part OnePart
     emit-part f s k x y =
@@ -172,6 +172,15 @@ module _ (d : ℕ) (t : List ℕ) (n at : ℕ) where
         ∙ ap (λ (ps : List (List ℕ × ℕ)). parts (emit (d - 1) t) ps (n + 1)) (one_in layouts node.kind k layouts-one t n node)
         ∙ parts-one (emit (d - 1) t) (front_of (layout_of node.kind) t n node) node.children (n + 1))
         (spelt_then _ _ x y)
+
+    pub emit-short : (s : List ℕ) → r ≡ Stop → o₁ ≡ s → (node.kind ≡ 0x14 → ⊥) → Spelt (front_of (layout_of node.kind) t n node) at None o s → Emits (emit d t n) at r o o₁
+    unfolding layout_of one-part OnePart
+    emit-short s e f k x =
+        emits_is _ _ at r o o₁
+        (inside
+        ∙ ap (λ (ps : List (List ℕ × ℕ)). parts (emit (d - 1) t) ps (n + 1)) (one_in layouts node.kind k layouts-one t n node)
+        ∙ parts-one (emit (d - 1) t) (front_of (layout_of node.kind) t n node) node.children (n + 1))
+        (rw (e, f) (spelt_over _ _ x))
 
 -- ---- an emission from a record of the table, or from its end, ends at one
 

@@ -1,11 +1,10 @@
 -- What the emitting functions give and leave, by the emission of grammar's definitions. Internal: an auditor goes by grammar's
 -- `writing` and the writer's Written.antt.
-use Rattle.std.specs.Prelude.{ℕ, ◌+◌, ◌-◌, ◌≤◌, ◌<◌, ◌≡◌, cond, List, [], ◌∷◌, ◌++◌, length, leb}
+use Rattle.std.specs.Prelude.{ℕ, ◌+◌, ◌-◌, ◌≤◌, ◌<◌, ◌≡◌, cond, List, [], ◌∷◌, ◌++◌, length, leb, Option, Some, None}
 use Rattle.std.proofs.lemmas.List.Edits.{sets}
 use Rattle.grammar.specs.Emit.{Layout, parts_of, Emitted, torn, wrote, and_then, times, emit}
 use Rattle.grammar.specs.declared.Node.{Node}
-use Rattle.emission.specs.declared.Emit.{Emit}
-use Rattle.emission.specs.declared.Emit.TheVariants.{Next, Stop}
+use Rattle.emission.specs.End.{Emit, Next, Stop}
 use Rattle.emission.specs.declared.Part.{Part}
 
 -- the bytes of a record's first part
@@ -16,10 +15,10 @@ first_of (p ∷ ps) = p.0
 abbrev pub front_of : Layout → List ℕ → ℕ → Node → List ℕ
 front_of l t n r = first_of (parts_of l t n r)
 
--- bytes put into a buffer from `at` on, where r is the offset after them; or not all fitted, and r is past the end
-pub data Spelt (bs : List ℕ) (at r : ℕ) (before after : List ℕ) : Type 0 where
-  put : at + length bs ≤ length before → r ≡ at + length bs → after ≡ sets before at bs → Spelt bs at r before after
-  cut : length before < at + length bs → r ≡ length before + 1 → length after ≡ length before → Spelt bs at r before after
+-- bytes put into a buffer from `at` on, where r is the offset after them; or not all fitted
+pub data Spelt (bs : List ℕ) (at : ℕ) (r : Option ℕ) (before after : List ℕ) : Type 0 where
+  put : at + length bs ≤ length before → r ≡ Some (at + length bs) → after ≡ sets before at bs → Spelt bs at r before after
+  cut : length before < at + length bs → r ≡ None → length after ≡ length before → Spelt bs at r before after
 
 -- one emission after another
 unfoldable pub followed : Emitted → (ℕ → Emitted) → Emitted
@@ -42,8 +41,8 @@ pub record Emits (e : Emitted) (at : ℕ) (r : Emit) (before after : List ℕ) :
   pub kept : length after ≡ length before
 
 -- a record's subtree up to its end; or up to its children, whatever ends which ends the subtree
-abbrev pub Parted : (d : ℕ) → List ℕ → (n at : ℕ) → Part → (before after : List ℕ) → Type 0
-Parted d t n at (Part.Goes f k) before after =
+abbrev pub Parted : (d : ℕ) → List ℕ → (n at : ℕ) → Option Part → (before after : List ℕ) → Type 0
+Parted d t n at (Some (Part.Goes f k)) before after =
     (0 < d) × (n < length t) × (f ≤ length after) × ((r : Emit) (end : List ℕ) → Emits (times (emit (d - 1) t) k (n + 1)) f r after end → Emits (emit d t n) at r before end)
-Parted d t n at (Part.Ends e m) before after = Emits (emit d t n) at (Next e m) before after
-Parted d t n at Part.Stop before after = Emits (emit d t n) at Stop before after
+Parted d t n at (Some (Part.Ends p)) before after = Emits (emit d t n) at (Next p.at p.node) before after
+Parted d t n at None before after = Emits (emit d t n) at Stop before after

@@ -2,39 +2,21 @@
 // Slices are passed on as reborrows, for speed, as in crate `walk`.
 #![tactic(auto)]
 
-ghost use Rattle.std.specs.Prelude.{◌≡◌, ◌++◌, ◌+◌, ◌-◌, ◌*◌, ◌≤◌, ◌<◌, length};
+ghost use Rattle.std.specs.Prelude.{◌≡◌, ◌++◌, ◌+◌, ◌*◌, ◌≤◌, ◌<◌, length};
 ghost use Rattle.number.specs.Number.{encode};
 ghost use Rattle.grammar.specs.Emit.{array, callable, layout_of, param_count, parts_of, times, parts, emit};
+ghost use Rattle.emission.specs.End.{ended};
 ghost use Rattle.emission.specs.Emission.{front_of, Spelt, Emits, Parted};
 
-use grammar::{FIELD, LOCALS, LOW, METHOD, Node, PROPERTY, SIZE};
+use grammar::{FIELD, LOCALS, LOW, METHOD, Node, PROPERTY, Position, SIZE};
 
 const ARRAY: u32 = 0x14;
 
-// Where the next byte goes and which record is next; or the table has no blob that fits.
-#[derive(Clone, Copy)]
-pub enum Emit {
-    Next { at: usize, node: usize },
-    Stop,
-}
-
-// What is emitted of a record: its subtree, with where the next byte goes and which record is next; or its own bytes, with so many children to come;
-// or the table has no blob that fits.
-#[derive(Clone, Copy)]
+// What is emitted of a record: its own bytes, with so many children to come; or its subtree.
+#[derive(Clone, Copy, Debug, PartialEq, Eq)]
 enum Part {
     Goes { at: usize, children: u32 },
-    Ends { at: usize, node: usize },
-    Stop,
-}
-
-// The difference, or 0.
-fn less(x: u32, y: u32) -> u32
-    ensures { result ≡ x - y }
-{
-    if x < y {
-        return 0;
-    }
-    x - y
+    Ends { end: Position },
 }
 
 // The ParamCount of record n, a METHOD or PROPERTY: its children but the return type.
@@ -42,23 +24,23 @@ fn param_count(table: &[u32], n: usize) -> u32
     requires { 6 * n + 6 ≤ length table.now }
     ensures { result ≡ param_count table.now n }
 {
-    less(grammar::record_at(table, n).children, 1)
+    grammar::record_at(table, n).children.saturating_sub(1)
 }
 
 // A number of one byte, as `number_to` puts it.
-fn byte_to(out: &mut [u8], v: u32, at: usize) -> usize
+fn byte_to(out: &mut [u8], v: u32, at: usize) -> Option<usize>
     requires { v < 0x80 }
     ensures { Spelt (encode v) at result out.old out.new }
 {
     if at < out.len() {
         out[at] = v as u8;
-        return at + 1;
+        return Some(at + 1);
     }
-    out.len() + 1
+    None
 }
 
-// One number where it fits: the offset after it, or one past the end of the buffer. Most numbers have one byte.
-fn number_to(out: &mut [u8], v: u32, at: usize) -> usize
+// One number where it fits: the offset after it. Most numbers have one byte.
+fn number_to(out: &mut [u8], v: u32, at: usize) -> Option<usize>
     ensures { Spelt (encode v) at result out.old out.new }
 {
     if v < 0x80 {
@@ -66,24 +48,24 @@ fn number_to(out: &mut [u8], v: u32, at: usize) -> usize
     }
     let len = number::encoding::number_len(v);
     if out.len() < len {
-        return out.len() + 1;
+        return None;
     }
     if out.len() - len < at {
-        return out.len() + 1;
+        return None;
     }
     number::encoding::put_number(out, at, v);
-    at + len
+    Some(at + len)
 }
 
-fn pair_to(out: &mut [u8], x: u32, y: u32, at: usize) -> usize
+fn pair_to(out: &mut [u8], x: u32, y: u32, at: usize) -> Option<usize>
     ensures { Spelt (encode x ++ encode y) at result out.old out.new }
 {
-    let e = number_to(out, x, at);
+    let e = number_to(out, x, at)?;
     number_to(out, y, e)
 }
 
 // METHOD or PROPERTY: the lead byte, a generic count where there is one, and ParamCount.
-fn call_to(out: &mut [u8], table: &[u32], rec: Node, at: usize, n: usize) -> usize
+fn call_to(out: &mut [u8], table: &[u32], rec: Node, at: usize, n: usize) -> Option<usize>
     requires { 6 * n + 6 ≤ length table.now }
     ensures { Spelt (front_of callable table.now n rec) at result out.old out.new }
 {
@@ -91,12 +73,12 @@ fn call_to(out: &mut [u8], table: &[u32], rec: Node, at: usize, n: usize) -> usi
     if rec.a == 0 {
         return pair_to(out, rec.b, count, at);
     }
-    let e = number_to(out, rec.b, at);
+    let e = number_to(out, rec.b, at)?;
     pair_to(out, rec.a, count, e)
 }
 
 // What record n puts before its children, or before the first of them.
-fn front_to(out: &mut [u8], table: &[u32], rec: Node, at: usize, n: usize) -> usize
+fn front_to(out: &mut [u8], table: &[u32], rec: Node, at: usize, n: usize) -> Option<usize>
     requires { 6 * n + 6 ≤ length table.now }
     ensures { Spelt (front_of (layout_of rec.kind) table.now n rec) at result out.old out.new }
 {
@@ -104,7 +86,7 @@ fn front_to(out: &mut [u8], table: &[u32], rec: Node, at: usize, n: usize) -> us
     match kind {
         0x11 | 0x12 | 0x13 | 0x1E | 0x1F | 0x20 => pair_to(out, kind, rec.a, at),
         0x15 => {
-            let e = pair_to(out, kind, rec.b, at);
+            let e = pair_to(out, kind, rec.b, at)?;
             pair_to(out, rec.a, rec.children, e)
         }
         METHOD | PROPERTY => call_to(out, &*table, rec, at, n),
@@ -117,74 +99,77 @@ fn front_to(out: &mut [u8], table: &[u32], rec: Node, at: usize, n: usize) -> us
 }
 
 // The subtree whose root is record n, from the offset `at` on, with d levels left: up to its end where the record is an ARRAY or has no children,
-// and else the bytes before its children.
+// and else the bytes before its children. None where the table has no blob that fits.
 #[cycle(all_at_array_at_part_at)]
-fn part_at(out: &mut [u8], d: usize, table: &[u32], at: usize, n: usize) -> Part
+fn part_at(out: &mut [u8], d: usize, table: &[u32], at: usize, n: usize) -> Option<Part>
     requires { n ≤ length table.now }
     ensures { Parted d table.now n at result out.old out.new }
 {
     if d == 0 {
-        return Part::Stop;
+        return None;
     }
     if table.len() < 6 * n + 6 {
-        return Part::Stop;
+        return None;
     }
     let rec = grammar::record_at(table, n);
     if rec.kind == ARRAY {
-        return match array_at(out, d - 1, &*table, rec, at, n) {
-            Emit::Next { at: e, node: m } => Part::Ends { at: e, node: m },
-            Emit::Stop => Part::Stop,
-        };
+        let end = array_at(out, d - 1, &*table, rec, at, n)?;
+        return Some(Part::Ends { end });
     }
-    let e = front_to(out, &*table, rec, at, n);
-    if out.len() < e {
-        return Part::Stop;
-    }
+    let e = front_to(out, &*table, rec, at, n)?;
     let children = rec.children;
     if children == 0 {
-        return Part::Ends { at: e, node: n + 1 };
+        let end = Position { at: e, node: n + 1 };
+        return Some(Part::Ends { end });
     }
-    Part::Goes { at: e, children }
+    Some(Part::Goes { at: e, children })
 }
 
 // An ARRAY: its type, then Rank, NumSizes and the sizes, then NumLoBounds and the low bounds.
 #[cycle(all_at_array_at_part_at)]
-fn array_at(out: &mut [u8], d: usize, table: &[u32], rec: Node, at: usize, n: usize) -> Emit
+fn array_at(
+    out: &mut [u8],
+    d: usize,
+    table: &[u32],
+    rec: Node,
+    at: usize,
+    n: usize,
+) -> Option<Position>
     requires { n < length table.now }
-    ensures { Emits (parts (emit d table.now) (parts_of array table.now n rec) (n + 1)) at result out.old out.new }
+    ensures { Emits (parts (emit d table.now) (parts_of array table.now n rec) (n + 1)) at (ended result) out.old out.new }
 {
-    let first = number_to(out, rec.kind, at);
-    match all_at(out, d, &*table, 1, first, n + 1) {
-        Emit::Next { at: e, node: m } => {
-            let sizes = pair_to(out, rec.a, rec.b, e);
-            match all_at(out, d, &*table, rec.b, sizes, m) {
-                Emit::Next { at: e2, node: m2 } => {
-                    let lows = less(less(rec.children, 1), rec.b);
-                    let then = number_to(out, lows, e2);
-                    all_at(out, d, &*table, lows, then, m2)
-                }
-                Emit::Stop => Emit::Stop,
-            }
-        }
-        Emit::Stop => Emit::Stop,
-    }
+    let first = number_to(out, rec.kind, at)?;
+    let typed = all_at(out, d, &*table, 1, first, n + 1)?;
+    let sizes = pair_to(out, rec.a, rec.b, typed.at)?;
+    let sized = all_at(out, d, &*table, rec.b, sizes, typed.node)?;
+    let lows = rec.children.saturating_sub(1).saturating_sub(rec.b);
+    let then = number_to(out, lows, sized.at)?;
+    all_at(out, d, &*table, lows, then, sized.node)
 }
 
 // `count` subtrees one after the other; none from an offset past the end on. The children of the last of them are the next of the loop, one level down.
 #[cycle(all_at_array_at_part_at)]
-pub fn all_at(out: &mut [u8], d: usize, table: &[u32], count: u32, at: usize, n: usize) -> Emit
+pub fn all_at(
+    out: &mut [u8],
+    d: usize,
+    table: &[u32],
+    count: u32,
+    at: usize,
+    n: usize,
+) -> Option<Position>
     requires { n ≤ length table.now }
-    ensures { Emits (times (emit d table.now) count n) at result out.old out.new }
+    ensures { Emits (times (emit d table.now) count n) at (ended result) out.old out.new }
 {
     if out.len() < at {
-        return Emit::Stop;
+        return None;
     }
     let mut left = count;
     let mut e = at;
     let mut m = n;
     let mut deep = d;
     while 0 < left {
-        let w = match part_at(out, deep, &*table, e, m) {
+        let part = part_at(out, deep, &*table, e, m)?;
+        let end = match part {
             Part::Goes { at: f, children } => {
                 if left == 1 {
                     e = f;
@@ -193,19 +178,13 @@ pub fn all_at(out: &mut [u8], d: usize, table: &[u32], count: u32, at: usize, n:
                     deep -= 1;
                     continue;
                 }
-                all_at(out, deep - 1, &*table, children, f, m + 1)
+                all_at(out, deep - 1, &*table, children, f, m + 1)?
             }
-            Part::Ends { at: f, node } => Emit::Next { at: f, node },
-            Part::Stop => Emit::Stop,
+            Part::Ends { end } => end,
         };
-        match w {
-            Emit::Next { at: e2, node: m2 } => {
-                e = e2;
-                m = m2;
-            }
-            Emit::Stop => return Emit::Stop,
-        }
+        e = end.at;
+        m = end.node;
         left -= 1;
     }
-    Emit::Next { at: e, node: m }
+    Some(Position { at: e, node: m })
 }

@@ -54,6 +54,13 @@ pub struct Node {
     pub after: u32,
 }
 
+// Where a walk over a blob or its emission stands: an offset, and the index of the next node.
+#[derive(Clone, Copy, Debug, PartialEq, Eq)]
+pub struct Position {
+    pub at: usize,
+    pub node: usize,
+}
+
 // Whether all three counts are within the bound.
 pub fn known_counts(counts: Counts) -> bool
     ensures { result ≡ known_counts counts }

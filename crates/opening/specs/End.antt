@@ -2,7 +2,7 @@
 use Rattle.std.specs.Prelude.{ℕ, Result, Ok, Err}
 use Rattle.answer.specs.Refusal.{number_of}
 use Rattle.answer.specs.declared.refusal.Fault.{Fault}
-use Rattle.opening.specs.declared.Position.{Position}
+use Rattle.grammar.specs.declared.Position.{Position}
 
 pub data Walk : Type 0 where
   Next : (at node : ℕ) → Walk

@@ -36,13 +36,6 @@ pub fn head_of(kind: u32, a: u32, b: u32, children: u32) -> Head
     }
 }
 
-// Where a walk stands: an offset, and the index of the next node.
-#[derive(Clone, Copy, Debug, PartialEq, Eq)]
-pub struct Position {
-    pub at: usize,
-    pub node: usize,
-}
-
 // What was read at `from`, its refusal with that place.
 fn placed(read: Result<Number, Refusal>, from: usize) -> Result<Number, Fault>
     ensures { result ≡ placed read from }

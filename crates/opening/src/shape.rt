@@ -8,9 +8,9 @@ ghost use Rattle.opening.specs.Walk.{Walked};
 ghost use Rattle.opening.specs.Shape.{bound_at, shape_at, Shaped};
 
 use crate::table::seal;
-use crate::{Head, Position, head_of, placed};
+use crate::{Head, head_of, placed};
 use answer::refusal::{Fault, Refusal};
-use grammar::{LOW, MAX_NODES, MAX_RANK, SIZE};
+use grammar::{LOW, MAX_NODES, MAX_RANK, Position, SIZE};
 use number::Number;
 use number::checked::{checked_at, count_at};
 

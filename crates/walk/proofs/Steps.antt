@@ -25,7 +25,7 @@ use Rattle.std.specs.Prelude.{Result, Ok, Err}
 use Rattle.answer.specs.Refusal.{number_of}
 use Rattle.answer.specs.declared.refusal.Fault.{Fault}
 use Rattle.opening.specs.End.{Walk, Next, Stop, ended}
-use Rattle.opening.specs.declared.Position.{Position}
+use Rattle.grammar.specs.declared.Position.{Position}
 use Rattle.opening.proofs.Walks.{seal_put, seal_kept, walked_fault, walked_is, walked_as, found, still, walked_seal, walked_next}
 use Rattle.walk.specs.Series.{end_of, WalkedSeries}
 use Rattle.walk.specs.declared.Series.{Series}

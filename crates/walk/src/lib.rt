@@ -17,13 +17,13 @@ ghost use Rattle.walk.specs.Series.{WalkedSeries};
 
 use answer::refusal::Fault;
 use element::Place;
-use grammar::MAX_DEPTH;
+use grammar::{MAX_DEPTH, Position};
 use number::token::Counts;
 use opening::shape::shape_at;
 use opening::signatures::{Lead, fn_ptr_lead_at, lead_at};
 use opening::table::{close, seal};
 use opening::types::{Open, open_at};
-use opening::{Head, Position, head_of};
+use opening::{Head, head_of};
 
 // Types one after the other: where the walk goes on, and how many they are.
 #[derive(Clone, Copy, Debug, PartialEq, Eq)]

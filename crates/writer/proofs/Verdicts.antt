@@ -18,10 +18,12 @@ use Rattle.grammar.specs.Writer.{has_table, confirmed, writing}
 use Rattle.answer.specs.declared.Answer.{Answer}
 use Rattle.answer.specs.Answers.{answer}
 use Rattle.emission.specs.Emission.{result_of, leaves_of, Emits}
-use Rattle.emission.specs.declared.Emit.{Emit}
-use Rattle.emission.specs.declared.Emit.TheVariants.{Next, Stop}
+use Rattle.emission.specs.End.{Emit, Next, Stop}
 use Rattle.emission.proofs.Laws.{clash, Fit, fits, over, fit, emits_is, found, next_within, times-one}
 use Rattle.answer.specs.Written.{answer_of, output_of, Writes}
+use Rattle.answer.specs.declared.refusal.Fault.{Fault}
+use Rattle.std.specs.Prelude.{Option, Some, None, Result}
+use Rattle.writer.specs.Within.{WritesWithin}
 
 -- ---- copy_confirmed: s is the blob, o the output
 
@@ -53,7 +55,7 @@ module _ (kind : ℕ) (counts : Counts) (t s o : List ℕ) where
     unfolding answer_of output_of
     copy_done o₁ h j = rw (← e, le-leb (length s) (length o) h) (refl, j)
 
--- ---- write_known: y is what emitting gave, o₁ what it left of the bytes b
+-- ---- write_within: y is what emitting gave, o₁ what it left of the bytes b
 
 -- one subtree from record 0 on is the whole table's
 whole : (t : List ℕ) (y : Emit) (b o₁ : List ℕ) → Emits (times (emit max_depth t) 1 0) 0 y b o₁ → Emits (emitted t) 0 y b o₁
@@ -88,22 +90,31 @@ module _ (t : List ℕ) (y : Emit) (b o₁ : List ℕ) (x : Emits (times (emit m
   pub write_copied : (kind : ℕ) (counts : Counts) (o : List ℕ) (r : Answer) (o₂ : List ℕ) → Gives r o₂ o kind counts t (wrote (take at o₁) 0) → Gives r o₂ o kind counts t (emitted t)
   write_copied kind counts o r o₂ h = rw blob-emitted h
 
-abbrev blank : List ℕ
-blank = replicate max_bytes 0
+-- what stopped within n bytes is no result of the emission there
+pub stopped-within : (t : List ℕ) (n : ℕ) (o₁ : List ℕ) → Emits (times (emit max_depth t) 1 0) 0 Stop (replicate n 0) o₁ → result_of (emitted t) 0 n ≡ Stop
+stopped-within t n o₁ x = ap (result_of (emitted t) 0) (sym (length-replicate {A = ℕ} n 0)) ∙ sym (whole t Stop (replicate n 0) o₁ x).result
 
-pub write_stop : (kind : ℕ) (counts : Counts) (t : List ℕ) (y : Emit) (o₁ : List ℕ) → Emits (times (emit max_depth t) 1 0) 0 y blank o₁ → (o : List ℕ) → y ≡ Stop → Gives (answer 14 0) o o kind counts t (emitted t)
-unfolding answer_of output_of result_of
-write_stop kind counts t y o₁ x o g = go (emitted t) (whole t y blank o₁ x)
+-- ---- write_known: more bytes than a blob has
+
+-- where nothing is answered nothing is written
+pub within_none : (room kind : ℕ) (counts : Counts) (t : List ℕ) (r : Option (Result ℕ Fault)) (old new : List ℕ) → WritesWithin room kind counts t r old new → ((x : Result ℕ Fault) → r ≡ Some x → ⊥) → new ≡ old
+within_none room kind counts t (Some x) old new w h = absurd (h x refl)
+within_none room kind counts t None old new w h = w.0
+
+pub gives_kept : (kind : ℕ) (counts : Counts) (t : List ℕ) (r : Answer) (o : List ℕ) {o₁ : List ℕ} → o₁ ≡ o → Gives r o o kind counts t (emitted t) → Gives r o₁ o kind counts t (emitted t)
+gives_kept kind counts t r o e h = (h.0, e ∙ h.1)
+
+pub write_stop : (kind : ℕ) (counts : Counts) (t o : List ℕ) → result_of (emitted t) 0 max_bytes ≡ Stop → Gives (answer 14 0) o o kind counts t (emitted t)
+unfolding answer_of output_of
+write_stop kind counts t o g = go (emitted t) g
   where
-    by_fit : (bs : List ℕ) (n : ℕ) → Fit bs 0 (length blank) y (Next (0 + length bs) n) → Gives (answer 14 0) o o kind counts t (wrote bs n)
-    by_fit bs n (fits h e) = clash (sym g ∙ e)
-    by_fit bs n (over h e) =
-        let k : max_bytes < length bs = omega (arith, length-replicate {A = ℕ} max_bytes 0) in
-        rw (judge-long kind counts bs t k) (refl, refl)
+    by_fit : (bs : List ℕ) (n : ℕ) → Fit bs 0 max_bytes Stop (Next (0 + length bs) n) → Gives (answer 14 0) o o kind counts t (wrote bs n)
+    by_fit bs n (fits h e) = clash e
+    by_fit bs n (over h e) = let k : max_bytes < length bs = omega arith in rw (judge-long kind counts bs t k) (refl, refl)
 
-    go : (q : Emitted) → Emits q 0 y blank o₁ → Gives (answer 14 0) o o kind counts t q
+    go : (q : Emitted) → result_of q 0 max_bytes ≡ Stop → Gives (answer 14 0) o o kind counts t q
     go torn z = (refl, refl)
-    go (wrote bs n) z = by_fit bs n (fit bs n 0 (length blank) y z.result)
+    go (wrote bs n) z = by_fit bs n (fit bs n 0 max_bytes Stop (sym z))
 
 -- ---- write
 

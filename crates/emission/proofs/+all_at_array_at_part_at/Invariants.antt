@@ -2,7 +2,7 @@
 use Rattle.std.proofs.Common.{◌≡◌, ◌+◌, ◌≤◌, ◌*◌, length, ℕ, List}
 use Rattle.grammar.specs.Emit.{emit, times}
 use Rattle.emission.specs.Emission.{Emits}
-use Rattle.emission.specs.declared.Emit.{Emit}
+use Rattle.emission.specs.End.{Emit}
 use Rattle.emission.proofs.+all_at_array_at_part_at.Given as goal
 
 abbrev pub decreases-all_at : goal.decreases-all_at

@@ -4,7 +4,7 @@ use Rattle.emission.proofs.Laws.{byte_put, byte_cut}
 use Rattle.emission.proofs.byte_to.Goals as goal
 
 pub returns-then-at-out : goal.returns-then-at-out
-returns-then-at-out c = byte_put _ _ _ c.requires _ _ c.if-at-out.true refl refl
+returns-then-at-out c = byte_put _ _ _ c.requires _ c.if-at-out.true refl
 
 pub returns : goal.returns
-returns c = byte_cut _ _ _ c.requires _ c.if-at-out.false refl
+returns c = byte_cut _ _ _ c.requires c.if-at-out.false

@@ -4,15 +4,21 @@ use mathlib.Core.Path.{refl}
 use native.Mathlib.Omega.{arith}
 use Rattle.grammar.specs.Table.{METHOD, FIELD, LOCALS, PROPERTY, SIZE, LOW}
 use Rattle.grammar.specs.Emit.{layout_of, parts_of}
-use Rattle.emission.proofs.Laws.{spelt_more}
+use Rattle.emission.proofs.Laws.{spelt_as, spelt_cut, spelt_more}
 use Rattle.emission.proofs.Steps.{front_instance, front_field, front_locals, front_three, front_plain, spelt_front}
 use Rattle.emission.proofs.front_to.Goals as goal
 use Rattle.emission.proofs.front_to.Goals.{then-kind-lt20, else-kind-lt20+else-kind-lt30+then-kind-lt33, in_default-via-then-kind-lt17, in_default-via-else-kind-lt17+else-kind-lt20+then-kind-lt30, in_default-via-else-kind-lt17+else-kind-lt20+else-kind-lt30+else-kind-lt33}
 
-pub returns-in-21 : goal.returns-in-21
+pub returns-in_err-e-in-21 : goal.returns-in_err-e-in-21
 unfolding parts_of layout_of
-returns-in-21 c =
-    let a = c.args in spelt_front _ _ _ 0x15 c.in-21.is (front_instance a.table.now a.n a.rec) (spelt_more c.pair_to-e.ensures c.pair_to.ensures)
+returns-in_err-e-in-21 c =
+    let a = c.args in
+    spelt_as c.from_residual.ensures (spelt_front _ _ _ 0x15 c.in-21.is (front_instance a.table.now a.n a.rec) (spelt_cut _ c.in_err-e-in-21.ensures))
+
+pub returns-in_ok-e-in-21 : goal.returns-in_ok-e-in-21
+unfolding parts_of layout_of
+returns-in_ok-e-in-21 c =
+    let a = c.args in spelt_front _ _ _ 0x15 c.in-21.is (front_instance a.table.now a.n a.rec) (spelt_more c.in_ok-e-in-21.ensures c.pair_to-in-21.ensures)
 
 pub returns-in-256 : goal.returns-in-256
 unfolding parts_of layout_of

@@ -9,7 +9,7 @@ use Rattle.grammar.proofs.Bounds.{ends-many, ends-node}
 use Rattle.opening.specs.End.{Next, ended}
 use Rattle.opening.specs.Means.{on_open}
 use Rattle.opening.specs.Walk.{Walked}
-use Rattle.opening.specs.declared.Position.{Position}
+use Rattle.grammar.specs.declared.Position.{Position}
 use Rattle.opening.proofs.Walks.{seal_put, found, walked_as, walked_length, walked_next, walked_first, series-end, ends-series}
 use Rattle.walk.specs.Series.{end_of}
 use Rattle.walk.proofs.Laws.{pending_item, pending_link, pending_end, pending_is, fewer_levels, fewer_items, array-stop, array-cut, array-small, array-done}
