@@ -6,18 +6,21 @@ ghost use Rattle.number.specs.Token.{row_counts};
 ghost use Rattle.grammar.specs.Limits.{max_bytes};
 ghost use Rattle.grammar.specs.Judge.{judge, reading};
 ghost use Rattle.grammar.specs.Writer.{writing};
+ghost use Rattle.answer.specs.Answers.{panel_of};
 ghost use Rattle.reader.specs.Answer.{answer_of, table_of};
 ghost use Rattle.answer.specs.Written as written;
 ghost use Rattle.dawnclavier.specs.Packed.{pack_of};
 
 use answer::Answer;
+use answer::refusal::Fault;
 use number::token::row_counts;
 
 // The panel's number times 2^32 plus its place.
-fn pack(answer: Answer) -> u64
-    requires { answer.place ≤ max_bytes }
-    ensures { result ≡ pack_of answer }
+fn pack(told: Result<usize, Fault>) -> u64
+    requires { (panel_of told).place ≤ max_bytes }
+    ensures { result ≡ pack_of (panel_of told) }
 {
+    let answer = Answer::from(told);
     (answer.code as u64) * 0x1_0000_0000 + (answer.place as u64)
 }
 
