@@ -169,8 +169,10 @@ fn method_at(
     signature_types_at(out, d - 1, &*src, counts, lead, at, n)
 }
 
-// A signature from its types on, which have d levels left. Its record says how many were read.
+// A signature from its types on, which have d levels left. Its record says how many were read. It becomes part of its two callers, so that each reads its
+// lead in its own frame.
 #[cycle(array_at_fn_ptr_at_list_at_method_at_signature_types_at_type_at_types_at)]
+#[inline(always)]
 fn signature_types_at(
     out: &mut [u32],
     d: usize,
