@@ -14,8 +14,9 @@ fn or_words(m: &mut [u32], d: usize, s: usize, w: usize)
     requires { (d + w ≤ length m.old) × (s + w ≤ length m.old) × ((s + w ≤ d) ⊎ (d + w ≤ s)) }
     ensures { Ored m.old d s w m.new }
 {
+    // Kept: the two runs are of one slice, so a zip needs split_at_mut and a test of which run is first.
     for x in 0..w {
-        m[d + x] = m[d + x] | m[s + x];
+        m[d + x] |= m[s + x];
     }
 }
 
@@ -57,9 +58,7 @@ fn copy_words(m: &mut [u32], from: &[u32], d: usize, s: usize, w: usize)
     requires { (d + w ≤ length m.old) × (s + w ≤ length from.now) }
     ensures { Copied m.old from.now d s w m.new }
 {
-    for x in 0..w {
-        m[d + x] = from[s + x];
-    }
+    m[d..d + w].copy_from_slice(&from[s..s + w]);
 }
 
 // The first n rows become those of a table with more words to a row, or as many.
