@@ -45,6 +45,16 @@ pub struct Asked {
     pub mark: u32,
 }
 
+// The number of what a call of the register answers: 0 for done, or the refusal's.
+pub fn number_in<T>(told: &Result<T, Refusal>) -> u32
+    ensures { result ≡ number_in told.now }
+{
+    match told {
+        Ok(_) => 0,
+        Err(refusal) => (*refusal).into(),
+    }
+}
+
 // Whether there is such a row.
 #[tactic(auto, unfolding(crate::specs::Answers::row_code))]
 pub fn check_row(rows: usize, row: usize) -> Result<(), Refusal>

@@ -1,4 +1,5 @@
 // What the histories print: each call with its answer, on standard output.
+use answer::number_in;
 use cases::print::{number, text};
 use number::token::Counts;
 use register::Register;
@@ -22,10 +23,10 @@ fn standing(rt: &impl Print, n: u32) -> io::Result<()> {
 }
 
 pub fn open(rt: &impl Print, counts: Counts, sets: &mut [u32]) -> io::Result<Register> {
-    let c = register::open(counts, sets);
-    call(rt, b"open ", counts.specs as usize, c.code)?;
+    let (register, told) = Register::open(counts, sets);
+    call(rt, b"open ", counts.specs as usize, number_in(&told))?;
     text(rt, b"\n")?;
-    Ok(c.register)
+    Ok(register)
 }
 
 pub fn file(
@@ -35,31 +36,34 @@ pub fn file(
     blob: &[u8],
     sets: &mut [u32],
 ) -> io::Result<Register> {
-    let c = register::file(g, row, blob, sets);
-    call(rt, b"file ", row, c.code)?;
+    let mut register = g;
+    let told = register.file(row, blob, sets);
+    call(rt, b"file ", row, number_in(&told))?;
     text(rt, b"\n")?;
-    Ok(c.register)
+    Ok(register)
 }
 
 pub fn acknowledge(rt: &impl Print, g: Register, row: usize, sets: &[u32]) -> io::Result<Register> {
-    let c = register::acknowledge(g, row, sets);
-    call(rt, b"acknowledge ", row, c.code)?;
+    let mut register = g;
+    let told = register.acknowledge(row, sets);
+    call(rt, b"acknowledge ", row, number_in(&told))?;
     text(rt, b"\n")?;
-    Ok(c.register)
+    Ok(register)
 }
 
 // The answer, then standing, finding, place and mark.
 pub fn ask(rt: &impl Print, g: Register, row: usize, sets: &[u32]) -> io::Result<()> {
-    let a = register::ask(g, row, sets);
-    call(rt, b"ask ", row, a.code)?;
-    if a.code == 0 {
-        standing(rt, a.standing)?;
-    } else {
-        number(rt, b" ", a.standing as u64)?;
+    let told = g.ask(row, sets);
+    call(rt, b"ask ", row, number_in(&told))?;
+    match told {
+        Ok(a) => {
+            standing(rt, a.standing)?;
+            number(rt, b" ", a.finding as u64)?;
+            number(rt, b" ", a.place as u64)?;
+            number(rt, b" ", a.mark as u64)?;
+        }
+        Err(_) => text(rt, b" 0 0 0 0")?,
     }
-    number(rt, b" ", a.finding as u64)?;
-    number(rt, b" ", a.place as u64)?;
-    number(rt, b" ", a.mark as u64)?;
     text(rt, b"\n")
 }
 

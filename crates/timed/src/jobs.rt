@@ -60,8 +60,8 @@ fn file(g: Register, graph: Graph, rows: usize, i: usize, seed: u64, sets: &mut 
     let made = type_of(graph, rows, i, seed);
     let blob = made.blob;
     let length = made.length;
-    let changed = register::file(g, i + 1, &blob[..length], sets);
-    let register = changed.register;
+    let mut register = g;
+    let _ = register.file(i + 1, &blob[..length], sets);
     Filed {
         register,
         seed: made.seed,
@@ -90,12 +90,12 @@ fn file_all(g: Register, graph: Graph, mark: u8, sets: &mut Sets) -> Round {
 
 // A register of so many rows, all filed.
 fn filled(graph: Graph, rows: u32, sets: &mut Sets) -> Register {
-    let opened = register::open(row_counts(0, 0, rows), sets);
-    file_all(opened.register, graph, 0, sets).register
+    let (register, _) = Register::open(row_counts(0, 0, rows), sets);
+    file_all(register, graph, 0, sets).register
 }
 
 fn ask(g: Register, row: usize, sets: &Sets) -> u32 {
-    register::ask(g, row, sets).standing
+    g.ask(row, sets).map_or(0, |asked| asked.standing)
 }
 
 // Asks each row, one after the other.
