@@ -2,6 +2,7 @@
 ghost use Rattle.std.specs.Prelude.{◌≡◌, ◌*◌, ◌≤◌, ◌<◌, length};
 ghost use Rattle.bits.specs.Bits.{word_bits, bit_at};
 ghost use Rattle.bits.specs.Any.{any};
+ghost use Rattle.reach.specs.Closure.{ClosureOf};
 ghost use Rattle.standing.specs.Standing.{cleared, filled, standing_number};
 ghost use Rattle.standing.specs.Closed.{leans_on, loses_of, standing_of};
 
@@ -18,7 +19,28 @@ pub struct Closed<'a> {
     ghost wide: { rows ≤ word_bits * width },
 }
 
-impl Closed<'_> {
+impl<'a> Closed<'a> {
+    // What the first rows of `sets`, v words to a row, reach among themselves, laid over the room.
+    pub fn over(
+        room: &'a mut [u32],
+        width: usize,
+        sets: &[u32],
+        v: usize,
+        rows: usize,
+    ) -> Closed<'a>
+        requires { (rows * width ≤ length room.old) × (rows * v ≤ length sets.now) × (width ≤ v) × (rows ≤ word_bits * width) }
+        ensures width { result.width ≡ width }
+        ensures rows { result.rows ≡ rows }
+        ensures closed { ClosureOf width v rows sets.now result.words.now }
+    {
+        reach::closure(room, width, sets, v, rows);
+        Closed {
+            words: room,
+            width,
+            rows,
+        }
+    }
+
     // Row i reaches row j.
     fn reaches(&self, i: usize, j: usize) -> bool
         requires { (i < self.now.rows) × (j < self.now.rows) }
@@ -68,13 +90,21 @@ impl Closed<'_> {
         }
     }
 
+    // Row j loses its mark when row i is filed.
+    fn loses(&self, i: usize, j: usize) -> bool
+        requires { (i < self.now.rows) × (j < self.now.rows) }
+        ensures { result ≡ loses_of self.now.width self.now.words.now i j }
+    {
+        j == i || self.reaches(j, i)
+    }
+
     // Takes the marks of row i and of each row that reaches it.
     pub fn unmark(&self, marks: &mut [u8], i: usize)
         requires { (self.now.rows ≤ length marks.old) × (i < self.now.rows) }
         ensures { marks.new ≡ cleared marks.old self.now.rows (loses_of self.now.width self.now.words.now i) }
     {
         for j in 0..self.rows {
-            if j == i || self.reaches(j, i) {
+            if self.loses(i, j) {
                 marks[j] = 0;
             }
         }

@@ -43,13 +43,7 @@ pub fn standing_among(
     requires { (n * w ≤ length room.old) × (n * v ≤ length sets.now) × (w ≤ v) × (n ≤ word_bits * w) × (n ≤ length states.now) × (i < n) }
     ensures { standing_number result ≡ standing n (λ j. get_or states.now j 0) (bit_at v sets.now) i }
 {
-    reach::closure(room, w, sets, v, n);
-    let closed = Closed {
-        words: room,
-        width: w,
-        rows: n,
-    };
-    closed.standing_of(states, i)
+    Closed::over(room, w, sets, v, n).standing_of(states, i)
 }
 
 // The standings of n rows, in their order, by one closure.
@@ -65,13 +59,7 @@ pub fn standings_among(
     requires { (n * w ≤ length room.old) × (n * v ≤ length sets.now) × (w ≤ v) × (n ≤ word_bits * w) × (n ≤ length states.now) × (n ≤ length all.old) }
     ensures { all.new ≡ filled all.old n (standing n (λ j. get_or states.now j 0) (bit_at v sets.now)) }
 {
-    reach::closure(room, w, sets, v, n);
-    let closed = Closed {
-        words: room,
-        width: w,
-        rows: n,
-    };
-    closed.fill_standings(all, states);
+    Closed::over(room, w, sets, v, n).fill_standings(all, states);
 }
 
 // Some row of n has a mark.
@@ -95,11 +83,5 @@ pub fn unmark_among(
     requires { (n * w ≤ length room.old) × (n * v ≤ length sets.now) × (w ≤ v) × (n ≤ word_bits * w) × (n ≤ length marks.old) × (i < n) }
     ensures { marks.new ≡ cleared marks.old n (λ j. eqb j i || thru (bit_at v sets.now) n j i) }
 {
-    reach::closure(room, w, sets, v, n);
-    let closed = Closed {
-        words: room,
-        width: w,
-        rows: n,
-    };
-    closed.unmark(marks, i);
+    Closed::over(room, w, sets, v, n).unmark(marks, i);
 }
