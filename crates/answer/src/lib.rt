@@ -1,5 +1,5 @@
-// What the calls answer; and what the register's check and answer, by plain numbers: the number of rows, how many words are lent,
-// and a row's standing, state, finding, place and mark.
+// What the calls answer; and what the register's check and answer, by the number of rows, how many
+// words are lent, and a row's standing, state, finding, place and mark.
 #![tactic(auto)]
 
 ghost use Rattle.std.specs.Prelude.{◌≡◌};
@@ -81,6 +81,7 @@ pub fn check_call(lent: usize, rows: usize, row: usize) -> Result<(), Refusal>
 }
 
 // Whether a row of this standing and mark can be acknowledged.
+// Kept: numbers, here and in asked_of, for the fields of a register are pub and may hold any.
 #[tactic(auto, unfolding(crate::specs::Answers::ack_code))]
 pub fn check_acknowledgement(standing: u8, mark: u8) -> Result<(), Refusal>
     ensures { number_in result ≡ ack_code standing mark }
@@ -94,7 +95,8 @@ pub fn check_acknowledgement(standing: u8, mark: u8) -> Result<(), Refusal>
     Ok(())
 }
 
-// What asking gives of a row, by what is kept of it: finding and place are 0 unless its blob was refused.
+// What asking gives of a row, by what is kept of it: finding and place are 0 unless its blob was
+// refused.
 pub fn asked_of(standing: u8, state: u8, finding: u8, place: u16, mark: u8) -> Asked
     ensures { answered result ≡ asked_of standing state finding place mark }
 {

@@ -1,4 +1,5 @@
-// What the register keeps of a blob that is filed for a row: why it is refused, and the set of TypeSpec rows that its modifiers name.
+// What the register keeps of a blob that is filed for a row: why it is refused, and the set of
+// TypeSpec rows that its modifiers name.
 #![tactic(auto)]
 
 ghost use Rattle.std.specs.Prelude.{◌≡◌, ◌+◌, ◌*◌, ◌≤◌, length};
@@ -23,7 +24,8 @@ pub struct Refused {
 // Judges a blob for row i, whose set of rows is written to its words of `sets`.
 pub fn judge_row(sets: &mut [u32], i: usize, counts: Counts, blob: &[u8]) -> Result<(), Refused>
     requires { i * words + words ≤ length sets.old }
-    ensures { (kept_of result ≡ finding_of (judged counts blob.now)) × (sets.new ≡ named_by (judged counts blob.now) i sets.old) }
+    ensures { (kept_of result ≡ finding_of (judged counts blob.now))
+        × (sets.new ≡ named_by (judged counts blob.now) i sets.old) }
 {
     bits::clear_words(sets, i * WORDS, WORDS);
     let mut table = [0u32; MAX_TABLE];

@@ -14,13 +14,14 @@ fn or_words(m: &mut [u32], d: usize, s: usize, w: usize)
     requires { (d + w ≤ length m.old) × (s + w ≤ length m.old) × ((s + w ≤ d) ⊎ (d + w ≤ s)) }
     ensures { Ored m.old d s w m.new }
 {
-    // Kept: the two runs are of one slice, so a zip needs split_at_mut and a test of which run is first.
+    // Kept: the runs are of one slice, so a zip needs split_at_mut and a test of which is first.
     for x in 0..w {
         m[d + x] |= m[s + x];
     }
 }
 
 // Row i gets the bits of row k if it has bit k.
+// Kept: m, n and w, for a struct with m in it would have each step say that n and w stay.
 fn relax_row(m: &mut [u32], n: usize, w: usize, k: usize, i: usize)
     requires { (n * w ≤ length m.old) × (n ≤ word_bits * w) × (k < n) × (i < n) }
     ensures { RowRelaxed w k i m.old m.new }

@@ -1,5 +1,6 @@
-// The register of the TypeSpec rows of one module, a struct by value, with the sets of rows that its rows name in numbers that the caller lends: the
-// same at each call from the opening on, WORDS to a row. Row r has the index r - 1.
+// The register of the TypeSpec rows of one module, a struct by value, with the sets of rows that its
+// rows name in numbers that the caller lends: the same at each call from the opening on, WORDS to a
+// row. Row r has the index r - 1.
 #![tactic(auto)]
 
 ghost use Rattle.std.specs.Prelude.{◌≡◌, ◌-◌, length, IfOk};
@@ -16,7 +17,8 @@ use grammar::MAX_ROWS;
 use number::token::{Counts, no_counts};
 use standing::Standing;
 
-// Up to so many rows, a row is asked or filed with FEW_WORDS words to a row in the closed table, which is then small enough to be closed quickly.
+// Up to so many rows, a row is asked or filed with FEW_WORDS words to a row in the closed table,
+// which is then small enough to be closed quickly.
 const FEW: usize = 64;
 
 const FEW_WORDS: usize = FEW / bits::WORD_BITS;
@@ -26,6 +28,8 @@ const FEW_ROOM: usize = FEW * FEW_WORDS;
 
 const ROOM: usize = MAX_SIZE * WORDS;
 
+// Kept: an array for each, for the states and the marks are lent apart, as slices: both to the crate
+// standing, and the marks to the sheet, which acknowledges on a copy of them.
 #[derive(Clone, Copy)]
 pub struct Register {
     // the row counts of the tables; that of TypeSpec is the number of rows
@@ -71,9 +75,11 @@ impl Register {
         }
     }
 
-    // Opens a register of so many rows, whose words it clears; a refused opening hands back one of 0 rows.
+    // Opens a register of so many rows, whose words it clears; a refused opening hands back one of
+    // 0 rows.
     pub fn open(counts: Counts, sets: &mut [u32]) -> (Register, Result<(), Refusal>)
-        ensures { left (changed (number_in result.1) result.0) sets.new ≡ open_of counts sets.old }
+        ensures { left (changed (number_in result.1) result.0) sets.new
+            ≡ open_of counts sets.old }
     {
         match check_opening(counts, sets.len()) {
             Ok(()) => {
@@ -124,8 +130,9 @@ impl Register {
         }
     }
 
-    // The standings of all rows, in their order, by one closure; 0 behind the last row, and for a size above MAX_SIZE or too few words lent everywhere.
-    // Kept: numbers, for a size above MAX_SIZE has 0 where no row stands.
+    // The standings of all rows, in their order, by one closure; 0 behind the last row, and for a
+    // size above MAX_SIZE or too few words lent everywhere.
+    // Kept: numbers, for the contract states a list of numbers, 0 where no row stands.
     pub fn standings(&self, sets: &[u32]) -> [u8; MAX_SIZE]
         ensures { result ≡ standings_of self.now sets.now }
     {
@@ -139,7 +146,8 @@ impl Register {
         all
     }
 
-    // Takes the marks of row i and of each row that reaches it, by a closed table of ROOM_WORDS words, W to a row.
+    // Takes the marks of row i and of each row that reaches it, by a closed table of ROOM_WORDS
+    // words, W to a row.
     #[tactic(auto, unfolding(crate::specs::Calls::marks_after))]
     fn unmark_in<const W: usize, const ROOM_WORDS: usize>(&mut self, i: usize, sets: &[u32])
         requires inside { Inside self.old i sets.now }
@@ -151,7 +159,7 @@ impl Register {
         standing::unmark_among(&mut self.marks, &mut room, W, sets, WORDS, n, i);
     }
 
-    // The marks after row i is filed. Where there are none, none is taken, whatever the rows reach.
+    // Takes the marks that row i's filing takes. Where there are none, the rows are not looked at.
     fn unmark(&mut self, i: usize, sets: &[u32])
         requires { Inside self.old i sets.now }
         ensures { self.new ≡ record self.old { marks = marks_after self.old i sets.now } }
@@ -169,7 +177,8 @@ impl Register {
 
     fn file_at(&mut self, i: usize, blob: &[u8], sets: &mut [u32])
         requires { Inside self.old i sets.old }
-        ensures { left (changed 0 self.new) sets.new ≡ file_at self.old i (judged self.old.counts blob.now) sets.old }
+        ensures { left (changed 0 self.new) sets.new
+            ≡ file_at self.old i (judged self.old.counts blob.now) sets.old }
     {
         self.unmark(i, sets);
         let (state, code, place) = match judge_row(sets, i, self.counts, blob) {
@@ -183,7 +192,8 @@ impl Register {
 
     // Files a blob, good or bad, for a row.
     pub fn file(&mut self, row: usize, blob: &[u8], sets: &mut [u32]) -> Result<(), Refusal>
-        ensures { left (changed (number_in result) self.new) sets.new ≡ file_of self.old row blob.now sets.old }
+        ensures { left (changed (number_in result) self.new) sets.new
+            ≡ file_of self.old row blob.now sets.old }
     {
         let i = self.index_of(row, sets)?;
         self.file_at(i, blob, sets);

@@ -28,7 +28,8 @@ impl<'a> Closed<'a> {
         v: usize,
         rows: usize,
     ) -> Closed<'a>
-        requires { (rows * width ≤ length room.old) × (rows * v ≤ length sets.now) × (width ≤ v) × (rows ≤ word_bits * width) }
+        requires { (rows * width ≤ length room.old) × (rows * v ≤ length sets.now)
+            × (width ≤ v) × (rows ≤ word_bits * width) }
         ensures width { result.width ≡ width }
         ensures rows { result.rows ≡ rows }
         ensures closed { ClosureOf width v rows sets.now result.words.now }
@@ -51,7 +52,8 @@ impl<'a> Closed<'a> {
 
     // Row i reaches row j, which is EMPTY, BAD or LOOP.
     fn leans_on(&self, states: &[u8], i: usize, j: usize) -> bool
-        requires { (self.now.rows ≤ length states.now) × (i < self.now.rows) × (j < self.now.rows) }
+        requires { (self.now.rows ≤ length states.now)
+            × (i < self.now.rows) × (j < self.now.rows) }
         ensures { result ≡ leans_on self.now.width self.now.words.now states.now i j }
     {
         self.reaches(i, j) && (states[j] < 2 || self.reaches(j, j))
@@ -60,7 +62,8 @@ impl<'a> Closed<'a> {
     // Row i reaches a row that is EMPTY, BAD or LOOP.
     fn leans(&self, states: &[u8], i: usize) -> bool
         requires { (self.now.rows ≤ length states.now) × (i < self.now.rows) }
-        ensures { result ≡ any self.now.rows (leans_on self.now.width self.now.words.now states.now i) }
+        ensures { result
+            ≡ any self.now.rows (leans_on self.now.width self.now.words.now states.now i) }
     {
         (0..self.rows).any(|j| self.leans_on(states, i, j))
     }
@@ -69,7 +72,8 @@ impl<'a> Closed<'a> {
     #[tactic(auto, unfolding(crate::specs::Closed::standing_of))]
     pub fn standing_of(&self, states: &[u8], i: usize) -> Standing
         requires { (self.now.rows ≤ length states.now) × (i < self.now.rows) }
-        ensures { standing_number result ≡ standing_of self.now.width self.now.words.now states.now self.now.rows i }
+        ensures { standing_number result
+            ≡ standing_of self.now.width self.now.words.now states.now self.now.rows i }
     {
         match states[i] {
             0 => Standing::Empty,
@@ -83,7 +87,8 @@ impl<'a> Closed<'a> {
     // The standings of all rows, in their order.
     pub fn fill_standings(&self, all: &mut [u8], states: &[u8])
         requires { (self.now.rows ≤ length states.now) × (self.now.rows ≤ length all.old) }
-        ensures { all.new ≡ filled all.old self.now.rows (standing_of self.now.width self.now.words.now states.now self.now.rows) }
+        ensures { all.new ≡ filled all.old self.now.rows
+            (standing_of self.now.width self.now.words.now states.now self.now.rows) }
     {
         for i in 0..self.rows {
             all[i] = self.standing_of(states, i).into();
@@ -101,7 +106,8 @@ impl<'a> Closed<'a> {
     // Takes the marks of row i and of each row that reaches it.
     pub fn unmark(&self, marks: &mut [u8], i: usize)
         requires { (self.now.rows ≤ length marks.old) × (i < self.now.rows) }
-        ensures { marks.new ≡ cleared marks.old self.now.rows (loses_of self.now.width self.now.words.now i) }
+        ensures { marks.new ≡ cleared marks.old self.now.rows
+            (loses_of self.now.width self.now.words.now i) }
     {
         for j in 0..self.rows {
             if self.loses(i, j) {

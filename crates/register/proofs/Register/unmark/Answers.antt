@@ -13,6 +13,6 @@ pub returns-then-not-any_marked : goal.returns-then-not-any_marked
 returns-then-not-any_marked c =
     let g = c.args.self.now in
     let none : any g.counts.specs (marked_in g.marks) ≡ false =
-        ap (λ (n : ℕ). any n (marked_in g.marks)) (sym c.rows-n.ensures) ∙ sym c.any_marked.ensures ∙ c.if-not-any_marked.true in
+    ap (λ (n : ℕ). any n (marked_in g.marks)) (sym c.rows-n.ensures) ∙ sym c.any_marked.ensures ∙ c.if-not-any_marked.true in
     let with : List ℕ → Register = λ m. record { counts = g.counts; states = g.states; codes = g.codes; places = g.places; marks = m } in
     ap with (marks_none g c.args.sets.now c.args.i none)
