@@ -1,11 +1,11 @@
-// What the calls answer; and what the register's answer, by plain numbers: the number of rows, how many words are lent, and a row's standing, state,
-// finding, place and mark.
+// What the calls answer; and what the register's check and answer, by the number of rows, how many
+// words are lent, and a row's standing, state, finding, place and mark.
 #![tactic(auto)]
 
 ghost use Rattle.std.specs.Prelude.{◌≡◌};
-ghost use Rattle.answer.specs.Answers.{row_code, admit_code, ack_code, asked_of, panel_of};
+ghost use Rattle.answer.specs.Answers.{row_code, admit_code, ack_code, asked_of, panel_of, number_in, answered};
 
-use refusal::Fault;
+use refusal::{Fault, Refusal};
 
 pub mod refusal;
 
@@ -36,75 +36,75 @@ impl From<Result<usize, Fault>> for Answer {
     }
 }
 
-#[derive(Clone, Copy)]
+// What asking a row gives.
+#[derive(Clone, Copy, Debug, PartialEq, Eq)]
 pub struct Asked {
-    pub code: u32,
     pub standing: u32,
     pub finding: u32,
     pub place: usize,
     pub mark: u32,
 }
 
-// 16 or 0: whether there is such a row.
-pub fn row_code(rows: usize, row: usize) -> u32
-    ensures { result ≡ row_code rows row }
+// The number of what a call of the register answers: 0 for done, or the refusal's.
+pub fn number_in<T>(told: &Result<T, Refusal>) -> u32
+    ensures { result ≡ number_in told.now }
 {
-    if row == 0 {
-        return 16;
+    match told {
+        Ok(_) => 0,
+        Err(refusal) => (*refusal).into(),
     }
-    if rows < row {
-        return 16;
-    }
-    0
 }
 
-// 19, 27, 16 or 0: the refusals that come first on any call but opening, with so many words lent.
-pub fn admit_code(lent: usize, rows: usize, row: usize) -> u32
-    ensures { result ≡ admit_code lent rows row }
+// Whether there is such a row.
+#[tactic(auto, unfolding(crate::specs::Answers::row_code))]
+pub fn check_row(rows: usize, row: usize) -> Result<(), Refusal>
+    ensures { number_in result ≡ row_code rows row }
+{
+    if row == 0 || rows < row {
+        return Err(Refusal::NoSuchRow);
+    }
+    Ok(())
+}
+
+// The refusals that come first on any call but opening, with so many words lent.
+#[tactic(auto, unfolding(crate::specs::Answers::admit_code))]
+pub fn check_call(lent: usize, rows: usize, row: usize) -> Result<(), Refusal>
+    ensures { number_in result ≡ admit_code lent rows row }
 {
     if MAX_SIZE < rows {
-        return 19;
+        return Err(Refusal::SizeOutOfRange);
     }
     if lent < rows * WORDS {
-        return 27;
+        return Err(Refusal::TooFewWords);
     }
-    row_code(rows, row)
+    check_row(rows, row)
 }
 
-// 17, 18 or 0: what acknowledging a row of this standing and mark answers.
-pub fn ack_code(standing: u8, mark: u8) -> u32
-    ensures { result ≡ ack_code standing mark }
+// Whether a row of this standing and mark can be acknowledged.
+// Kept: numbers, here and in asked_of, for the fields of a register are pub and may hold any.
+#[tactic(auto, unfolding(crate::specs::Answers::ack_code))]
+pub fn check_acknowledgement(standing: u8, mark: u8) -> Result<(), Refusal>
+    ensures { number_in result ≡ ack_code standing mark }
 {
-    if standing == 0 {
-        return 17;
+    if standing == 0 || standing == 4 {
+        return Err(Refusal::NothingToAcknowledge);
     }
-    if standing == 4 {
-        return 17;
+    if mark != 0 {
+        return Err(Refusal::AlreadyMarked);
     }
-    if mark == 0 {
-        return 0;
-    }
-    18
+    Ok(())
 }
 
-// What asking gives of a row, by what is kept of it: finding and place are 0 unless its blob was refused.
+// What asking gives of a row, by what is kept of it: finding and place are 0 unless its blob was
+// refused.
 pub fn asked_of(standing: u8, state: u8, finding: u8, place: u16, mark: u8) -> Asked
-    ensures { result ≡ asked_of standing state finding place mark }
+    ensures { answered result ≡ asked_of standing state finding place mark }
 {
-    if state == 1 {
-        return Asked {
-            code: 0,
-            standing: standing as u32,
-            finding: finding as u32,
-            place: place as usize,
-            mark: mark as u32,
-        };
-    }
+    let (finding, place) = if state == 1 { (finding, place) } else { (0, 0) };
     Asked {
-        code: 0,
-        standing: standing as u32,
-        finding: 0,
-        place: 0,
-        mark: mark as u32,
+        standing: standing.into(),
+        finding: finding.into(),
+        place: place.into(),
+        mark: mark.into(),
     }
 }

@@ -12,7 +12,9 @@ use native.Mathlib.Decide.{ℕ_discrete, dec_le, dec_lt}
 use lib.Pow.{pow_pos, pow-lt, pow-add}
 use borrow.Author.Tests.{eq-eqb, ne_eqb}
 use lib.Seq.{get_or-set_same, get_or-set_other}
-use lib.ListN.{length, get_or, set, length-set}
+use lib.ListN.{length, get_or, set, length-set, replicate}
+use lib.Seq.{paste}
+use Rattle.std.proofs.lemmas.List.Edits.{paste_none, fill_from_more}
 use lib.Dec.{eqb}
 use lib.Bits.{bit_or, or_shr, or_step}
 use Rattle.bits.specs.Bits.{word_bits, bit, bit_at, put_bit, clear_words}
@@ -112,13 +114,11 @@ pub zero_bit : (k : ℕ) → bit 0 k ≡ false
 unfolding bit
 zero_bit k = ap (λ (x : ℕ). eqb (x % 2) 1) (zero-div (2 ^ k))
 
-pub zeroed_none : (l : List ℕ) (d : ℕ) → l ≡ clear_words l d 0
+-- the words that are cleared, as one part of the list
+pub zeroed-paste : (l : List ℕ) (d n : ℕ) → d + n ≤ length l → clear_words l d n ≡ paste l d (replicate n 0) n
 unfolding clear_words
-zeroed_none l d = refl
-
-pub zeroed_more : (l : List ℕ) (d x : ℕ) → set (clear_words l d x) (d + x) 0 ≡ clear_words l d (x + 1)
-unfolding clear_words
-zeroed_more l d x = rw add-one refl
+zeroed-paste l d zero h = paste_none l d (replicate 0 0)
+zeroed-paste l d (suc n) h = ap (λ (x : List ℕ). set x (d + n) 0) (zeroed-paste l d n (omega arith)) ∙ fill_from_more l d n 0 (omega arith) ∙ ap (λ (x : ℕ). paste l d (replicate x 0) x) (add-one n)
 
 pub length_zeroed : (l : List ℕ) (d x : ℕ) → length (clear_words l d x) ≡ length l
 unfolding clear_words

@@ -8,6 +8,7 @@ ghost use Rattle.bits.specs.Bits.{word_bits, bit_at, put_bit, clear_words};
 pub const WORD_BITS: usize = 32;
 
 // Row r's bit s.
+#[tactic(auto, unfolding(crate::specs::Bits::bit_at, crate::specs::Bits::bit))]
 pub fn bit_at(m: &[u32], w: usize, r: usize, s: usize) -> bool
     requires { r * w + s / word_bits < length m.now }
     ensures { result ≡ bit_at w m.now r s }
@@ -16,12 +17,13 @@ pub fn bit_at(m: &[u32], w: usize, r: usize, s: usize) -> bool
 }
 
 // Sets row r's bit s.
+#[tactic(auto, using(crate::proofs::BitLaws::one_shift), unfolding(crate::specs::Bits::put_bit))]
 pub fn put_bit(m: &mut [u32], w: usize, r: usize, s: usize)
     requires { r * w + s / word_bits < length m.old }
     ensures { m.new ≡ put_bit w m.old r s }
 {
     let k = r * w + s / WORD_BITS;
-    m[k] = m[k] | (1u32 << (s % WORD_BITS));
+    m[k] |= 1u32 << (s % WORD_BITS);
 }
 
 // Sets the n words from d on to 0.
@@ -29,7 +31,5 @@ pub fn clear_words(m: &mut [u32], d: usize, n: usize)
     requires { d + n ≤ length m.old }
     ensures { m.new ≡ clear_words m.old d n }
 {
-    for x in 0..n {
-        m[d + x] = 0;
-    }
+    m[d..d + n].fill(0);
 }

@@ -25,7 +25,8 @@ use Rattle.bits.specs.Any.{any}
 use Rattle.bits.proofs.BitLaws.{at_put, at_put_other, get_or-put_out, length_put, length_zeroed, get_or-zeroed_out, at_emptied, at_emptied_other, eqb_same}
 use Rattle.bits.proofs.Any.{any-cong, any-shift}
 use Rattle.filing.specs.Outcome.{has, names_row}
-use Rattle.filing.specs.Named.{row_named, collect_of, named_by}
+use Rattle.std.specs.Prelude.{Option, Some, None, unwrap_or}
+use Rattle.filing.specs.Named.{row_named, index_of, collect_of, named_by}
 
 cond_le : (b : Bool) (x n : ℕ) → leb x n ≡ b → cond b x 0 ≤ n
 cond_le true x n e = leb-true x n e
@@ -41,6 +42,20 @@ row_le t k =
     let a = get_or t (6 * k + 1) 0 in
     cond_zero (is_modifier (get_or t (6 * k) 0)) (cond (eqb (a % 4) 2) (cond (leb (a / 4) (max_size)) (a / 4) 0) 0) (max_size)
     (cond_zero (eqb (a % 4) 2) (cond (leb (a / 4) (max_size)) (a / 4) 0) (max_size) (cond_le (leb (a / 4) (max_size)) (a / 4) (max_size) refl))
+
+-- an index is of the row after it
+pub index-some : (row j : ℕ) → Some j ≡ index_of row → row ≡ j + 1
+index-some zero j e = absurd (cc)
+index-some (suc k) j e =
+    let h : Some j ≡ Some (suc k - 1) = simp (ne_eqb (suc k) 0 (omega arith)) at e in
+    let f : j ≡ suc k - 1 = ap (λ (o : Option ℕ). unwrap_or o 0) h in
+    omega arith
+
+pub index_none : (row : ℕ) → None ≡ index_of row → row ≡ 0
+index_none zero e = refl
+index_none (suc k) e =
+    let h : None ≡ Some (suc k - 1) = simp (ne_eqb (suc k) 0 (omega arith)) at e in
+    cc
 
 eqb_pred : (r s : ℕ) → (r ≡ 0 → ⊥) → eqb s (r - 1) ≡ eqb r (s + 1)
 eqb_pred r s ne = eqb_same s (r - 1) r (s + 1) (λ e. omega arith) (λ e. omega arith)

@@ -18,12 +18,8 @@ use Rattle.answer.specs.declared.Answer.{Answer}
 use Rattle.answer.specs.Size.{words}
 use Rattle.bits.specs.Bits.{emptied}
 use Rattle.filing.specs.Named.{collect_of, named_by}
-use Rattle.filing.specs.Kept.{finding_of}
-use Rattle.filing.specs.declared.Finding.{Finding}
+use Rattle.filing.specs.Kept.{Finding, finding, finding_of}
 use Rattle.filing.proofs.Collects.{collected_cong, named-front}
-
-abbrev finding : (state code place : ℕ) → Finding
-finding state code place = record { state = state; code = code; place = place }
 
 -- the row's set and finding, of any outcome
 abbrev Kept : Out → ℕ → List ℕ → Finding → List ℕ → Type 0

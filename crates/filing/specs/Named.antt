@@ -1,5 +1,5 @@
 -- The rows that a flat node table's modifiers name, put as bits into row r of a table of `words` words to a row.
-use Rattle.std.specs.Prelude.{ℕ, zero, suc, ◌-◌, cond, List, leb, eqb}
+use Rattle.std.specs.Prelude.{ℕ, zero, suc, ◌-◌, cond, List, leb, eqb, Option, Some, None}
 use Rattle.number.specs.Token.{tag_of, row_of, type_spec_tag}
 use Rattle.answer.specs.Size.{max_size, words}
 use Rattle.bits.specs.Bits.{put_bit, emptied}
@@ -14,6 +14,10 @@ named_in r = cond (is_modifier r.kind) (cond (eqb (tag_of r.a) type_spec_tag) (c
 -- .. and that record k of a flat table names
 unfoldable pub row_named : List ℕ → ℕ → ℕ
 row_named t k = named_in (record_at t k)
+
+-- .. as an index, if it names one
+abbrev pub index_of : ℕ → Option ℕ
+index_of row = cond (eqb row 0) None (Some (row - 1))
 
 -- the first n records' rows, put into row r of m
 unfoldable pub collect_of : List ℕ → ℕ → ℕ → List ℕ → List ℕ

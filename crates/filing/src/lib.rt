@@ -1,10 +1,11 @@
-// What the register keeps of a blob that is filed for a row: the finding, and the set of TypeSpec rows that its modifiers name.
+// What the register keeps of a blob that is filed for a row: why it is refused, and the set of
+// TypeSpec rows that its modifiers name.
 #![tactic(auto)]
 
 ghost use Rattle.std.specs.Prelude.{◌≡◌, ◌+◌, ◌*◌, ◌≤◌, length};
 ghost use Rattle.answer.specs.Size.{words};
 ghost use Rattle.filing.specs.Outcome.{judged};
-ghost use Rattle.filing.specs.Kept.{finding_of};
+ghost use Rattle.filing.specs.Kept.{finding_of, kept_of};
 ghost use Rattle.filing.specs.Named.{named_by};
 
 use answer::WORDS;
@@ -13,35 +14,29 @@ use number::token::Counts;
 
 mod named;
 
-// What is kept of a judged blob beside its set of rows.
-#[derive(Clone, Copy)]
-pub struct Finding {
-    pub state: u8,
+// Why a blob is refused, as the register keeps it: the refusal's number and place.
+#[derive(Clone, Copy, Debug, PartialEq, Eq)]
+pub struct Refused {
     pub code: u8,
     pub place: u16,
 }
 
 // Judges a blob for row i, whose set of rows is written to its words of `sets`.
-pub fn judge_row(sets: &mut [u32], i: usize, counts: Counts, blob: &[u8]) -> Finding
+pub fn judge_row(sets: &mut [u32], i: usize, counts: Counts, blob: &[u8]) -> Result<(), Refused>
     requires { i * words + words ≤ length sets.old }
-    ensures { (result ≡ finding_of (judged counts blob.now)) × (sets.new ≡ named_by (judged counts blob.now) i sets.old) }
+    ensures { (kept_of result ≡ finding_of (judged counts blob.now))
+        × (sets.new ≡ named_by (judged counts blob.now) i sets.old) }
 {
     bits::clear_words(sets, i * WORDS, WORDS);
     let mut table = [0u32; MAX_TABLE];
-    let answer = reader::read(0, counts, blob, &mut table);
-    let code = answer.code;
-    let place = answer.place;
-    if code != 0 {
-        return Finding {
-            state: 1,
-            code: code as u8,
-            place: place as u16,
-        };
-    }
-    named::collect(sets, i, &table, place);
-    Finding {
-        state: 2,
-        code: 0,
-        place: 0,
+    match reader::read(0, counts, blob, &mut table) {
+        Ok(nodes) => {
+            named::collect(sets, i, &table, nodes);
+            Ok(())
+        }
+        Err(fault) => Err(Refused {
+            code: u32::from(fault.refusal) as u8,
+            place: fault.place as u16,
+        }),
     }
 }

@@ -1,4 +1,5 @@
 // A register over lent numbers: each call is printed with its answer, on standard output.
+use answer::number_in;
 use number::token::Counts;
 use register::Register;
 use std::io;
@@ -28,13 +29,9 @@ impl<'a, P: Print> Session<'a, P> {
     }
 
     pub fn open(rt: &'a P, counts: Counts, sets: &'a mut [u32]) -> io::Result<Session<'a, P>> {
-        let opened = register::open(counts, sets);
-        println!(rt; "open {}: {}", counts.specs, opened.code)?;
-        Ok(Session {
-            rt,
-            register: opened.register,
-            sets,
-        })
+        let (register, told) = Register::open(counts, sets);
+        println!(rt; "open {}: {}", counts.specs, number_in(&told))?;
+        Ok(Session { rt, register, sets })
     }
 
     pub fn register(&self) -> Register {
@@ -54,27 +51,28 @@ impl<'a, P: Print> Session<'a, P> {
     }
 
     pub fn file(&mut self, row: usize, blob: &[u8]) -> io::Result<()> {
-        let filed = register::file(self.register, row, blob, self.sets);
-        self.register = filed.register;
-        println!(self.rt; "file {row}: {}", filed.code)
+        let told = self.register.file(row, blob, self.sets);
+        println!(self.rt; "file {row}: {}", number_in(&told))
     }
 
     pub fn acknowledge(&mut self, row: usize) -> io::Result<()> {
-        let acknowledged = register::acknowledge(self.register, row, self.sets);
-        self.register = acknowledged.register;
-        println!(self.rt; "acknowledge {row}: {}", acknowledged.code)
+        let mut register = self.register;
+        let told = register.acknowledge(row, self.sets);
+        self.register = register;
+        println!(self.rt; "acknowledge {row}: {}", number_in(&told))
     }
 
     // The answer, then standing, finding, place and mark.
     pub fn ask(&self, row: usize) -> io::Result<()> {
-        let asked = register::ask(self.register, row, self.sets);
-        print!(self.rt; "ask {row}: {} ", asked.code)?;
-        if asked.code == 0 {
-            print!(self.rt; "{}", name_of(asked.standing))?;
-        } else {
-            print!(self.rt; "{}", asked.standing)?;
+        let told = self.register.ask(row, self.sets);
+        print!(self.rt; "ask {row}: {} ", number_in(&told))?;
+        match told {
+            Ok(asked) => {
+                let name = name_of(asked.standing);
+                println!(self.rt; "{name} {} {} {}", asked.finding, asked.place, asked.mark)
+            }
+            Err(_) => println!(self.rt; "0 0 0 0"),
         }
-        println!(self.rt; " {} {} {}", asked.finding, asked.place, asked.mark)
     }
 
     // Asks rows 1 to `last`.

@@ -1,6 +1,6 @@
 -- The steps of the closure: one more word or row copied, one more word joined, one more row relaxed, one more row closed over.
 -- Assumes nothing.
-use Prim.Native.Nat.{ℕ, ◌+◌, ◌*◌, ◌/◌, ◌%◌, ◌<◌, ◌≤◌}
+use Prim.Native.Nat.{ℕ, zero, suc, ◌-◌, ◌+◌, ◌*◌, ◌/◌, ◌%◌, ◌<◌, ◌≤◌}
 use mathlib.Core.Path.{◌≡◌, refl, sym, ap, ap₂, ◌∙◌, subst}
 use mathlib.Core.List.{List}
 use mathlib.Core.Bool.{Bool, true, false, ◌||◌, ◌&&◌, or-false}
@@ -9,6 +9,11 @@ use native.Mathlib.Omega.{arith}
 use native.Mathlib.Decide.{ℕ_discrete, dec_lt}
 use native.Mathlib.Nat.{le_refl}
 use lib.ListN.{length, get_or, set, length-set}
+use lib.Seq.{paste}
+use borrow.Rule.Slice.PartMut.{put_mid}
+use Rattle.std.specs.List.{between}
+use Rattle.std.proofs.lemmas.List.Edits.{paste_none, paste_more, length-between, get_or-between}
+use Rattle.std.proofs.lemmas.Slice.{put_mid-paste}
 use lib.Seq.{get_or-set_same, get_or-set_other}
 use lib.Bits.{bit_or}
 use native.Mathlib.Numerals.{add-one}
@@ -32,6 +37,22 @@ written-more {l₀} {l} {d} {x} f v o e h = record {
   rest = λ p hp. get_or-set_other l (d + x) p v 0 (⊎_elim (λ a. omega arith) (λ a. omega arith) hp)
       ∙ o.rest p (⊎_elim (λ a. inl a) (λ a. inr (omega arith)) hp);
 }
+
+-- a part of the list written
+pub written-paste : (l zs : List ℕ) (d x : ℕ) → d + x ≤ length l → x ≤ length zs → Written l d (λ y. get_or zs y 0) x (paste l d zs x)
+written-paste l zs d zero h k = subst (Written l d (λ y. get_or zs y 0) 0) (paste_none l d zs) (written_none l d (λ y. get_or zs y 0))
+written-paste l zs d (suc x) h k =
+    let o = written-more (λ y. get_or zs y 0) (get_or zs x 0) (written-paste l zs d x (omega arith) (omega arith)) refl (omega arith) in
+    subst (λ (n : ℕ). Written l d (λ y. get_or zs y 0) n (paste l d zs n)) (add-one x)
+    (subst (Written l d (λ y. get_or zs y 0) (x + 1)) (paste_more l d zs x 0 (omega arith) (omega arith)) o)
+
+-- .. with words of another table
+pub copied-put : (l t ys : List ℕ) (d s w : ℕ) → d + w ≤ length l → s + w ≤ length t → ys ≡ between s (s + w) t → Copied l t d s w (put_mid d (d + w - d) l ys)
+copied-put l t ys d s w h k e =
+    let n : length (between s (s + w) t) ≡ w = length-between t s (s + w) k ∙ omega arith in
+    let o = written-paste l (between s (s + w) t) d w h (omega arith) in
+    let p : Written l d (λ y. get_or (between s (s + w) t) y 0) w (put_mid d (d + w - d) l ys) = subst (Written l d (λ y. get_or (between s (s + w) t) y 0) w) (sym (put_mid-paste d (d + w - d) l ys _ w e (omega arith) (sym n))) o in
+    record { len = p.len; done = λ y hy. p.done y hy ∙ get_or-between t s (s + w) y 0 (omega arith); rest = p.rest }
 
 -- one more word joined; the source is not written
 pub ored_more : {l₀ l : List ℕ} {d s x : ℕ} (w : ℕ) → Ored l₀ d s x l → x < w → d + w ≤ length l₀ → Apart d s w

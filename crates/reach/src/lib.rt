@@ -14,12 +14,14 @@ fn or_words(m: &mut [u32], d: usize, s: usize, w: usize)
     requires { (d + w ≤ length m.old) × (s + w ≤ length m.old) × ((s + w ≤ d) ⊎ (d + w ≤ s)) }
     ensures { Ored m.old d s w m.new }
 {
+    // Kept: the runs are of one slice, so a zip needs split_at_mut and a test of which is first.
     for x in 0..w {
-        m[d + x] = m[d + x] | m[s + x];
+        m[d + x] |= m[s + x];
     }
 }
 
 // Row i gets the bits of row k if it has bit k.
+// Kept: m, n and w, for a struct with m in it would have each step say that n and w stay.
 fn relax_row(m: &mut [u32], n: usize, w: usize, k: usize, i: usize)
     requires { (n * w ≤ length m.old) × (n ≤ word_bits * w) × (k < n) × (i < n) }
     ensures { RowRelaxed w k i m.old m.new }
@@ -57,9 +59,7 @@ fn copy_words(m: &mut [u32], from: &[u32], d: usize, s: usize, w: usize)
     requires { (d + w ≤ length m.old) × (s + w ≤ length from.now) }
     ensures { Copied m.old from.now d s w m.new }
 {
-    for x in 0..w {
-        m[d + x] = from[s + x];
-    }
+    m[d..d + w].copy_from_slice(&from[s..s + w]);
 }
 
 // The first n rows become those of a table with more words to a row, or as many.

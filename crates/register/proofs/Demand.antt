@@ -8,7 +8,7 @@ use lib.ListN.{length}
 use lib.Dec.{eqb}
 use borrow.Author.Tests.{eqb-true, eqb-false}
 use Rattle.number.specs.declared.token.Counts.{Counts}
-use Rattle.answer.specs.declared.Asked.{Asked}
+use Rattle.answer.specs.Answers.{Told}
 use Rattle.register.specs.Calls.{Held}
 use Rattle.register.specs.Model.{Model, Call, filing, acknowledging, asking, report, standing_m, row_code_m, answer_m}
 use Rattle.register.specs.Demand.{asks, report_of, answer_r, but_mark, after_r, after_m, Demand3}
@@ -31,7 +31,7 @@ module _ (counts : Counts) (sets : List ℕ) (cs : List Call) where
   unfolding answer_r
   same m q = (step m (asking q)).0
 
-  asked : (a : Asked) (b : Model) (q : ℕ) → report_of a ≡ answer_m b (asking q) → a.code ≡ 0 → (1 ≤ q) × (report_of a ≡ row_of b (q - 1))
+  asked : (a : Told) (b : Model) (q : ℕ) → report_of a ≡ answer_m b (asking q) → a.code ≡ 0 → (1 ≤ q) × (report_of a ≡ row_of b (q - 1))
   unfolding answer_m
   asked a b q e z = go (eqb (row_code_m b q) 0) refl e
     where

@@ -16,7 +16,7 @@ use Rattle.grammar.specs.Judge.{Out}
 use Rattle.filing.specs.Outcome.{judged}
 use Rattle.filing.proofs.Collects.{length_named, get_or-named_out}
 use Rattle.register.specs.declared.Register.{Register}
-use Rattle.register.specs.declared.Changed.{Changed}
+use Rattle.register.specs.Calls.{Changed}
 use Rattle.register.specs.Calls.{Held, held, Left, open_code, open_of, filed, file_of, standing_at, acknowledge_at, acknowledge_of}
 use Rattle.register.specs.Model.{Call, filing, acknowledging, asking}
 use Rattle.register.specs.Demand.{next_r, end_r, after_r}

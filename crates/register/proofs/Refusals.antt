@@ -11,11 +11,11 @@ use Rattle.number.specs.Token.{no_counts}
 use Rattle.number.specs.declared.token.Counts.{Counts}
 use Rattle.grammar.specs.Refusals.{among}
 use Rattle.answer.specs.Size.{max_size, words}
-use Rattle.answer.specs.declared.Asked.{Asked}
+use Rattle.answer.specs.Answers.{Told}
 use Rattle.answer.specs.Answers.{row_code, admit_code, ack_code, told}
 use Rattle.answer.proofs.Admits.{by_code}
 use Rattle.register.specs.declared.Register.{Register}
-use Rattle.register.specs.declared.Changed.{Changed}
+use Rattle.register.specs.Calls.{Changed}
 use Rattle.register.specs.Refusals.{open_refusals, call_refusals, ack_own, ack_refusals}
 use Rattle.register.specs.Calls.{Left, left, blank_register, changed, too_many, open_code, open_of, file_of, standing_at, marked, acknowledge_at, acknowledge_of, ask_at, ask_of}
 
@@ -35,7 +35,7 @@ pub data Acknowledging (g : Register) : Changed → Type 0 where
   refused : {code : ℕ} → T (among ack_refusals code) → Acknowledging g (changed code g)
 
 -- done, or refused with four 0s
-pub data Asking : Asked → Type 0 where
+pub data Asking : Told → Type 0 where
   answered : (standing finding place mark : ℕ) → Asking (told 0 standing finding place mark)
   refused : {code : ℕ} → T (among call_refusals code) → Asking (told code 0 0 0 0)
 

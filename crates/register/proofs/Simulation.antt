@@ -24,7 +24,7 @@ use Rattle.number.specs.declared.token.Counts.{Counts}
 use Rattle.grammar.specs.Judge.{Out, fault, done}
 use Rattle.grammar.proofs.Bounds.{ends-judge}
 use Rattle.register.specs.declared.Register.{Register}
-use Rattle.register.specs.declared.Changed.{Changed}
+use Rattle.register.specs.Calls.{Changed}
 use Rattle.answer.specs.Size.{max_size, words}
 use Rattle.answer.specs.Answers.{row_code, admit_code, ack_code}
 use Rattle.filing.specs.Outcome.{judged, state_of, code_of, place_of, names_row}

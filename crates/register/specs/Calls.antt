@@ -3,7 +3,7 @@
 use Rattle.std.specs.Prelude.{ℕ, ◌-◌, ◌*◌, ◌≤◌, ◌<◌, List, Bool, cond, ◌||◌, length, set, get_or, replicate, ltb, eqb}
 use Rattle.std.proofs.Math.Option.{some}
 use Rattle.reach.specs.Reach.{Graph, thru}
-use Rattle.bits.specs.Bits.{bit_at, clear_words}
+use Rattle.bits.specs.Bits.{word_bits, bit_at, clear_words}
 use Rattle.standing.specs.Standing.{standing, cleared, filled}
 use Rattle.number.specs.Token.{no_counts}
 use Rattle.number.specs.declared.token.Counts.{Counts}
@@ -12,12 +12,15 @@ use Rattle.grammar.specs.Judge.{Out}
 use Rattle.answer.specs.Size.{max_size, words}
 use Rattle.filing.specs.Outcome.{state_of, code_of, place_of}
 use Rattle.filing.specs.Named.{named_by}
-use Rattle.answer.specs.Answers.{admit_code, ack_code, told, asked_of}
+use Rattle.answer.specs.Answers.{Told, admit_code, ack_code, told, asked_of}
 use Rattle.register.specs.declared.Register.{Register}
-use Rattle.register.specs.declared.Changed.{Changed}
-use Rattle.answer.specs.declared.Asked.{Asked}
 -- passed on, since `file_of` goes by it
 pub use Rattle.filing.specs.Outcome.{judged}
+
+-- the number that a call answers, and the register afterwards
+pub record Changed : Type 0 where
+  pub code : ℕ
+  pub register : Register
 
 -- what a call that may write leaves: its answer with the register, and the numbers lent. "every refusal keeps it unchanged"
 pub record Left : Type 0 where
@@ -70,6 +73,10 @@ open_of counts l =
 -- row i is a row of the register, and the numbers lent are enough for all of them: what the functions behind the calls require
 abbrev pub Inside : Register → ℕ → List ℕ → Type 0
 Inside g i l = (g.counts.specs ≤ max_size) × (i < g.counts.specs) × (g.counts.specs * words ≤ length l)
+
+-- a table of so many words, w to a row, has room for the closed table of the register's rows
+abbrev pub RoomFor : Register → (w room : ℕ) → Type 0
+RoomFor g w room = (g.counts.specs * w ≤ room) × (room ≤ max_size * words) × (w ≤ words) × (g.counts.specs ≤ word_bits * w)
 
 -- row i refers to row j, by the sets lent
 abbrev pub refers : List ℕ → Graph
@@ -130,9 +137,9 @@ acknowledge_at g i l =
 unfoldable pub acknowledge_of : Register → ℕ → List ℕ → Changed
 acknowledge_of g row l = cond (eqb (admit_code (length l) g.counts.specs row) 0) (acknowledge_at g (row - 1) l) (changed (admit_code (length l) g.counts.specs row) g)
 
-unfoldable pub ask_at : Register → ℕ → List ℕ → Asked
+unfoldable pub ask_at : Register → ℕ → List ℕ → Told
 ask_at g i l = asked_of (standing_at g i l) (get_or g.states i 0) (get_or g.codes i 0) (get_or g.places i 0) (get_or g.marks i 0)
 
 -- "Asking a row gives standing, finding, place, mark (finding and place 0 unless BAD; a refused asking has all four 0)"
-unfoldable pub ask_of : Register → ℕ → List ℕ → Asked
+unfoldable pub ask_of : Register → ℕ → List ℕ → Told
 ask_of g row l = cond (eqb (admit_code (length l) g.counts.specs row) 0) (ask_at g (row - 1) l) (told (admit_code (length l) g.counts.specs row) 0 0 0 0)

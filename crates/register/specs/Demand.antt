@@ -3,7 +3,7 @@
 use Rattle.std.specs.Prelude.{ℕ, ◌-◌, ◌≡◌, List, [], ◌∷◌, ◌↔◌, length}
 use Rattle.reach.specs.Reach.{Reach}
 use Rattle.number.specs.declared.token.Counts.{Counts}
-use Rattle.answer.specs.declared.Asked.{Asked}
+use Rattle.answer.specs.Answers.{Told}
 use Rattle.register.specs.Calls.{Held, holding, held, open_of, file_of, acknowledge_of, ask_of}
 use Rattle.register.specs.Model.{Model, Call, filing, acknowledging, asking, Answer, number, report, refers_m, answer_m, answers_m, end_m, opening_m, opened_m}
 use Rattle.register.specs.History.{Stands, Marked}
@@ -12,10 +12,10 @@ use Rattle.register.specs.History.{Stands, Marked}
 -- likewise: "the same at each call from a register's opening on, which only that register's calls write"
 
 -- asking a row
-abbrev pub asks : Held → ℕ → Asked
+abbrev pub asks : Held → ℕ → Told
 asks h q = ask_of h.register q h.sets
 
-abbrev pub report_of : Asked → Answer
+abbrev pub report_of : Told → Answer
 report_of a = report a.code a.standing a.finding a.place a.mark
 
 unfoldable pub answer_r : Held → Call → Answer

@@ -14,19 +14,18 @@ use Rattle.sheet.specs.Lines.{ack_line}
 use Rattle.sheet.specs.Acks.{ack_row_code, ack_row_marks, acks_by, acked_marks}
 
 module _ (standings : List ℕ) (rows : ℕ) (marks : List ℕ) (row : ℕ) where
-  module _ {no : ℕ} (e : no ≡ row_code rows row) where
-    pub no_row : (no ≡ 0 → ⊥) → (no ≡ ack_row_code standings rows marks row) × (marks ≡ ack_row_marks standings rows marks row)
+  pub no_row : {no : ℕ} → no ≡ row_code rows row → (no ≡ 0 → ⊥) → (no ≡ ack_row_code standings rows marks row) × (marks ≡ ack_row_marks standings rows marks row)
+  unfolding ack_row_code ack_row_marks
+  no_row e ne = rw (← e, ne_eqb _ _ ne, ne_eqb _ _ ne) (refl, refl)
+
+  module _ (z : row_code rows row ≡ 0) {code : ℕ} (ec : code ≡ ack_code (get_or standings (row - 1) 0) (get_or marks (row - 1) 0)) where
+    pub not_due : (code ≡ 0 → ⊥) → (code ≡ ack_row_code standings rows marks row) × (marks ≡ ack_row_marks standings rows marks row)
     unfolding ack_row_code ack_row_marks
-    no_row ne = rw (← e, ne_eqb _ _ ne, ne_eqb _ _ ne) (refl, refl)
+    not_due ne = rw (eq-eqb _ _ z, ← ec, ne_eqb _ _ ne) (refl, refl)
 
-    module _ (z : no ≡ 0) {code : ℕ} (ec : code ≡ ack_code (get_or standings (row - 1) 0) (get_or marks (row - 1) 0)) where
-      pub not_due : (code ≡ 0 → ⊥) → (code ≡ ack_row_code standings rows marks row) × (marks ≡ ack_row_marks standings rows marks row)
-      unfolding ack_row_code ack_row_marks
-      not_due ne = rw (← e, eq-eqb _ _ z, ← ec, ne_eqb _ _ ne) (refl, refl)
-
-      pub done : code ≡ 0 → (code ≡ ack_row_code standings rows marks row) × (set marks (row - 1) 1 ≡ ack_row_marks standings rows marks row)
-      unfolding ack_row_code ack_row_marks
-      done y = rw (← e, eq-eqb _ _ z, ← ec, eq-eqb _ _ y) (refl, refl)
+    pub done : code ≡ 0 → (code ≡ ack_row_code standings rows marks row) × (set marks (row - 1) 1 ≡ ack_row_marks standings rows marks row)
+    unfolding ack_row_code ack_row_marks
+    done y = rw (eq-eqb _ _ z, ← ec, eq-eqb _ _ y) (refl, refl)
 
   pub length_ack : length (ack_row_marks standings rows marks row) ≡ length marks
   unfolding ack_row_marks

@@ -6,9 +6,8 @@ use mathlib.Core.List.{List, [], ◌∷◌}
 use native.Mathlib.Omega.{arith}
 use lib.ListN.{take, drop}
 use Rattle.number.specs.declared.token.Counts.{Counts}
-use Rattle.register.specs.Calls.{Left, left, Held, held, holding, open_of, file_of}
+use Rattle.register.specs.Calls.{Changed, Left, left, Held, held, holding, open_of, file_of}
 use Rattle.register.specs.declared.Register.{Register}
-use Rattle.register.specs.declared.Changed.{Changed}
 use Rattle.layout.specs.Layout.{counts_of, blobs_from}
 use Rattle.layout.specs.declared.Layout.{Layout}
 use Rattle.sheet.specs.Filed.{file_all, register_of}

@@ -10,7 +10,7 @@ use lib.Dec.{eqb}
 use Rattle.number.specs.Checked.{checked_at}
 use Rattle.answer.specs.Size.{max_size}
 use Rattle.register.specs.declared.Register.{Register}
-use Rattle.answer.specs.declared.Asked.{Asked}
+use Rattle.answer.specs.Answers.{Told}
 use Rattle.layout.specs.Layout.{acks_from}
 use Rattle.layout.proofs.Lists.{list_length}
 use Rattle.text.specs.Numeral.{max_digits, decimal}
@@ -38,7 +38,7 @@ name_length n = picked (eqb n 0) (eqb n 1) (eqb n 2) (eqb n 3)
     picked false false false true = omega arith
     picked false false false false = omega arith
 
-row_length : (row : ℕ) (a : Asked) → length (row_line row a) ≤ 90
+row_length : (row : ℕ) (a : Told) → length (row_line row a) ≤ 90
 unfolding row_line
 row_length row a =
     let named = decimal row ++ standing_name a.standing in

@@ -4,7 +4,7 @@ use Prim.Native.Nat.{ℕ, suc, ◌+◌, ◌-◌, ◌<◌}
 use mathlib.Core.Path.{◌≡◌, sym, subst}
 use mathlib.Core.List.{List}
 use native.Mathlib.Omega.{arith}
-use Rattle.answer.specs.declared.Asked.{Asked}
+use Rattle.answer.specs.Answers.{Told}
 use Rattle.register.specs.declared.Register.{Register}
 use Rattle.sheet.specs.Lines.{row_line}
 use Rattle.text.specs.Printing.{Prints}
@@ -16,7 +16,7 @@ module _ (g : Register) (standings marks : List ℕ) where
   unfolding rows_by
   rows_none k i e to out = subst (λ j. Prints (rows_by g standings marks j i) to to out out) (sym e) (prints_none to out)
 
-  pub rows_next : (n i : ℕ) → i < n → {a : Asked} → a ≡ asked_by g standings marks i → (to r q : ℕ) (old mid new : List ℕ) → Prints (row_line (i + 1) a) to r old mid
+  pub rows_next : (n i : ℕ) → i < n → {a : Told} → a ≡ asked_by g standings marks i → (to r q : ℕ) (old mid new : List ℕ) → Prints (row_line (i + 1) a) to r old mid
       → Prints (rows_by g standings marks (n - (i + 1)) (i + 1)) r q mid new → Prints (rows_by g standings marks (n - i) i) to q old new
   unfolding rows_by
   rows_next n i h ea to r q old mid new p t =

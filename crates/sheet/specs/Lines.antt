@@ -1,6 +1,6 @@
 -- Document 01, "Deposit sheet": the lines that are printed, each ended by 0A, in ASCII.
 use Rattle.std.specs.Prelude.{ℕ, List, [], ◌∷◌, ◌++◌, cond, eqb}
-use Rattle.answer.specs.declared.Asked.{Asked}
+use Rattle.answer.specs.Answers.{Told}
 use Rattle.text.specs.Numeral.{decimal}
 
 abbrev pub newline : List ℕ
@@ -26,7 +26,7 @@ standing_name n =
     (0x20 ∷ 0x43 ∷ 0x4C ∷ 0x45 ∷ 0x41 ∷ 0x4E ∷ []))))
 
 -- a row: its number, standing, finding, place and mark
-unfoldable pub row_line : ℕ → Asked → List ℕ
+unfoldable pub row_line : ℕ → Told → List ℕ
 row_line row a =
     decimal row ++ standing_name a.standing ++ field a.finding ++ field a.place ++ field a.mark ++ newline
 

@@ -1,8 +1,7 @@
 -- Internal: the print by standings that are known and marks alone.
 use Rattle.std.specs.Prelude.{ℕ, zero, suc, ◌+◌, ◌≤◌, List, [], ◌++◌, length, get_or}
 use Rattle.answer.specs.Size.{max_size}
-use Rattle.answer.specs.Answers.{asked_of}
-use Rattle.answer.specs.declared.Asked.{Asked}
+use Rattle.answer.specs.Answers.{Told, asked_of}
 use Rattle.register.specs.declared.Register.{Register}
 use Rattle.sheet.specs.Lines.{header, row_line}
 use Rattle.sheet.specs.Acks.{acks_by, acked_marks}
@@ -12,7 +11,7 @@ abbrev pub Known : Register → (standings marks : List ℕ) → Type 0
 Known g standings marks = (g.counts.specs ≤ max_size) × (g.counts.specs ≤ length standings) × (g.counts.specs ≤ length marks)
 
 -- what asking row i gives, by these standings and marks
-unfoldable pub asked_by : Register → (standings marks : List ℕ) → ℕ → Asked
+unfoldable pub asked_by : Register → (standings marks : List ℕ) → ℕ → Told
 asked_by g standings marks i = asked_of (get_or standings i 0) (get_or g.states i 0) (get_or g.codes i 0) (get_or g.places i 0) (get_or marks i 0)
 
 -- the lines of k rows, from row i on

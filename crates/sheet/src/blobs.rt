@@ -21,8 +21,7 @@ fn file_all(sets: &mut [u32], s: &[u8], at: usize, count: u32, g: Register) -> R
         match blob_at(s, here) {
             Checked::Good { value, next } => {
                 let start = next - value as usize;
-                let changed = register::file(register, row, &s[start..next], sets);
-                register = changed.register;
+                let _ = register.file(row, &s[start..next], sets);
                 here = next;
             }
             Checked::Bad { refusal: _ } => return register,
@@ -38,6 +37,6 @@ pub fn register_of(sets: &mut [u32], s: &[u8], layout: Layout) -> Register
     ensures { holding result sets.new ≡ register_of s.now layout sets.old }
 {
     let counts = layout::counts_of(s, layout);
-    let opened = register::open(counts, sets);
-    file_all(sets, s, layout.starts.blobs, layout.rows, opened.register)
+    let (register, _) = Register::open(counts, sets);
+    file_all(sets, s, layout.starts.blobs, layout.rows, register)
 }

@@ -2,6 +2,7 @@
 #![tactic(auto)]
 
 ghost use Rattle.std.specs.Prelude.{◌≡◌, ◌<◌, ◌++◌, length};
+ghost use Rattle.answer.specs.Answers.{answered};
 ghost use Rattle.layout.specs.Layout.{acks_from};
 ghost use Rattle.text.specs.Printing.{further, laid, Prints};
 ghost use Rattle.sheet.specs.Lines.{header, refusal_line};
@@ -19,9 +20,10 @@ mod blobs;
 mod lines;
 
 // What asking row i gives, by these standings and marks.
+#[tactic(auto, unfolding(crate::specs::Rows::asked_by))]
 fn asked_by(g: Register, standings: &[u8], marks: &[u8], i: usize) -> Asked
     requires { Known g standings.now marks.now × (i < g.counts.specs) }
-    ensures { result ≡ asked_by g standings.now marks.now i }
+    ensures { answered result ≡ asked_by g standings.now marks.now i }
 {
     answer::asked_of(standings[i], g.states[i], g.codes[i], g.places[i], marks[i])
 }
@@ -95,7 +97,7 @@ fn print(out: &mut [u8], s: &[u8], layout: Layout) -> Answer
 {
     let mut sets = [0u32; MAX_SIZE * WORDS];
     let g = blobs::register_of(&mut sets, s, layout);
-    let standings = register::standings(g, &sets);
+    let standings = g.standings(&sets);
     let mut marks = g.marks;
     let at = layout.starts.acks;
     let count = layout.acknowledged;

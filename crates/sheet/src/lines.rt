@@ -1,4 +1,5 @@
 // The lines that a sheet prints: of a row, of an acknowledgement, of a refused sheet.
+ghost use Rattle.answer.specs.Answers.{answered};
 ghost use Rattle.text.specs.Printing.{Prints};
 ghost use Rattle.sheet.specs.Lines.{field, standing_name, row_line, ack_line, refusal_line};
 
@@ -28,7 +29,7 @@ fn standing_name_to(out: &mut [u8], to: usize, standing: u32) -> usize
 
 // The line of a row.
 pub fn row_line_to(out: &mut [u8], to: usize, row: usize, asked: Asked) -> usize
-    ensures { Prints (row_line row asked) to result out.old out.new }
+    ensures { Prints (row_line row (answered asked)) to result out.old out.new }
 {
     let named = decimal_to(out, to, row as u64);
     let stood = standing_name_to(out, named, asked.standing);

@@ -9,14 +9,16 @@ use native.Mathlib.Omega.{arith}
 use native.Mathlib.Decide.{ℕ_discrete}
 use native.Mathlib.Nat.{le_refl}
 use native.Mathlib.Numerals.{add-one}
-use lib.ListN.{length, get_or, set, length-set}
+use lib.ListN.{length, get_or, set, length-set, take}
+use Rattle.std.proofs.lemmas.List.{length-take-le, get_or-take}
 use lib.Seq.{get_or-set_same, get_or-set_other, set-get_or}
 use lib.Dec.{eqb, ltb}
-use borrow.Author.Tests.{lt-ltb, le-ltb, ltb-false, ne_eqb}
+use borrow.Author.Tests.{le-ltb, ltb-false, ne_eqb}
 use Rattle.bits.specs.Bits.{bit_at}
 use Rattle.bits.specs.Any.{any}
 use Rattle.bits.proofs.Bools.{or_neither}
-use Rattle.bits.proofs.Any.{any-cong}
+use Rattle.bits.proofs.Any.{any-cong, list_any-any}
+use Rattle.std.specs.List.{list_any}
 use Rattle.reach.specs.Reach.{Graph, thru}
 use Rattle.reach.specs.Closure.{ClosureOf}
 use Rattle.reach.proofs.Reaching.{thru-cong}
@@ -91,6 +93,13 @@ cleared-unmarked l (suc n) p h =
     same_picked true q = q
     same_picked false q = refl
 
+-- the first n marks, by their indices
+pub any-taken : (marks : List ℕ) (n : ℕ) → n ≤ length marks → list_any (λ m. ltb 0 m) (take n marks) ≡ any n (marked_in marks)
+any-taken marks n h =
+    list_any-any (λ m. ltb 0 m) (take n marks)
+    ∙ subst (λ (k : ℕ). any k (marked_in (take n marks)) ≡ any n (marked_in (take n marks))) (sym (length-take-le n marks h)) refl
+    ∙ any-cong n _ _ (λ j hj. ap (λ m. ltb 0 m) (get_or-take n marks j 0 hj))
+
 -- ---- filled
 pub length_filled : (l : List ℕ) (n : ℕ) (f : ℕ → ℕ) → length (filled l n f) ≡ length l
 unfolding filled
@@ -131,25 +140,6 @@ module _ (n : ℕ) (s t : ℕ → ℕ) (g h : Graph) (es : (i : ℕ) → i < n �
   pub standing-cong : (i : ℕ) → i < n → standing n s g i ≡ standing n t h i
   unfolding standing
   standing-cong i hi = rw (es i hi, thru-cong n g h eg n (le_refl n) i i hi hi, leaning-cong i hi)
-
--- ---- the ways out of `standing_of`
-module _ (w : ℕ) (m states : List ℕ) (n i : ℕ) where
-  pub stands_unaccepted : get_or states i 0 < 2 → get_or states i 0 ≡ standing_of w m states n i
-  unfolding standing_of
-  stands_unaccepted h = rw (lt-ltb _ _ h)
-
-  module _ (h : 2 ≤ get_or states i 0) {x : Bool} (ex : x ≡ bit_at w m i i) where
-    pub stands_loop : x ≡ true → 2 ≡ standing_of w m states n i
-    unfolding standing_of
-    stands_loop l = rw (le-ltb _ _ h, sym ex ∙ l)
-
-    pub stands_leans : x ≡ false → {y : Bool} → y ≡ any n (leans_on w m states i) → y ≡ true → 3 ≡ standing_of w m states n i
-    unfolding standing_of
-    stands_leans l ey a = rw (le-ltb _ _ h, sym ex ∙ l, sym ey ∙ a)
-
-    pub stands_clean : x ≡ false → {y : Bool} → y ≡ any n (leans_on w m states i) → y ≡ false → 4 ≡ standing_of w m states n i
-    unfolding standing_of
-    stands_clean l ey a = rw (le-ltb _ _ h, sym ex ∙ l, sym ey ∙ a)
 
 -- ---- the same tests over the closed table
 by_state : (state x y : ℕ) → x ≡ y → cond (ltb state 2) state x ≡ cond (eqb state 0) 0 (cond (eqb state 1) 1 y)

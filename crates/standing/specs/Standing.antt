@@ -3,6 +3,16 @@
 use Rattle.std.specs.Prelude.{ℕ, zero, suc, List, Bool, cond, ◌||◌, ◌&&◌, set, get_or, ltb, eqb}
 use Rattle.bits.specs.Any.{any}
 use Rattle.reach.specs.Reach.{Graph, thru}
+use Rattle.standing.specs.declared.Standing.{Standing}
+use Rattle.standing.specs.declared.Standing.TheVariants.{Empty, Bad, Loop, Leans, Clean}
+
+-- "0 EMPTY", "1 BAD", "2 LOOP", "3 LEANS", "4 CLEAN"
+abbrev pub standing_number : Standing → ℕ
+standing_number Empty = 0
+standing_number Bad = 1
+standing_number Loop = 2
+standing_number Leans = 3
+standing_number Clean = 4
 
 -- "an EMPTY, BAD or LOOP row"
 unfoldable pub trouble : ℕ → (ℕ → ℕ) → Graph → ℕ → Bool

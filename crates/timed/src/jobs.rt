@@ -1,6 +1,5 @@
 // The jobs that are timed.
 use crate::graphs::{Graph, Random, type_of};
-use number::checked::Checked;
 use number::token::row_counts;
 use register::{MAX_SIZE, Register, WORDS};
 
@@ -14,13 +13,11 @@ fn sum_of(s: &[u8]) -> u64 {
     let mut at = 0;
     // Kept: where a number ends is known only when it has been read.
     while at < s.len() {
-        match number::checked::checked_at(s, at) {
-            Checked::Good { value, next } => {
-                sum = sum.wrapping_add(u64::from(value));
-                at = next;
-            }
-            Checked::Bad { refusal: _ } => return sum,
-        }
+        let Ok(number) = number::checked::checked_at(s, at) else {
+            return sum;
+        };
+        sum = sum.wrapping_add(u64::from(number.value));
+        at = number.next;
     }
     sum
 }
@@ -41,7 +38,7 @@ fn file_all(g: &mut Register, graph: Graph, mark: u8, sets: &mut [u32]) -> u64 {
     for row in 1..=rows {
         g.marks[MARKED] = mark;
         let blob = type_of(graph, rows, row, &mut random);
-        *g = register::file(*g, row, blob.as_slice(), sets).register;
+        let _ = g.file(row, blob.as_slice(), sets);
         if g.marks[MARKED] != 0 {
             kept = kept.saturating_add(1);
         }
@@ -51,7 +48,7 @@ fn file_all(g: &mut Register, graph: Graph, mark: u8, sets: &mut [u32]) -> u64 {
 
 // A register of so many rows, all filed.
 fn filled(graph: Graph, rows: u32, sets: &mut [u32]) -> Register {
-    let mut g = register::open(row_counts(0, 0, rows), sets).register;
+    let (mut g, _) = Register::open(row_counts(0, 0, rows), sets);
     file_all(&mut g, graph, 0, sets);
     g
 }
@@ -59,7 +56,7 @@ fn filled(graph: Graph, rows: u32, sets: &mut [u32]) -> Register {
 // Asks each row, one after the other.
 fn ask_all(g: Register, sets: &[u32]) -> u64 {
     (1..=g.counts.specs as usize).fold(0u64, |sum, row| {
-        sum.wrapping_add(u64::from(register::ask(g, row, sets).standing))
+        sum.wrapping_add(g.ask(row, sets).map_or(0, |asked| u64::from(asked.standing)))
     })
 }
 

@@ -1,22 +1,18 @@
 -- `filing::judge_row` meets its contract. Assumes nothing.
+use mathlib.Core.Path.{refl}
 use native.Mathlib.Omega.{arith}
+use Rattle.answer.proofs.Numbers.{no-refusal}
 use Rattle.filing.proofs.Judging.{row_refused, row_accepted, row_nodes, row_small}
 use Rattle.filing.proofs.judge_row.Goals as goal
 
-pub overflow_cast-result : goal.overflow_cast-result
-overflow_cast-result c = let h = row_small _ _ _ _ c.read-answer.ensures c.if-code-ne0.true in omega arith
-
-pub overflow_cast-result-then-code-ne0 : goal.overflow_cast-result-then-code-ne0
-overflow_cast-result-then-code-ne0 c = let h = row_small _ _ _ _ c.read-answer.ensures c.if-code-ne0.true in omega arith
-
-pub returns-then-code-ne0 : goal.returns-then-code-ne0
-returns-then-code-ne0 c =
-    row_refused _ _ _ _ c.read-answer.ensures _ _ _ c.clear_words.ensures c.if-code-ne0.true
-
 pub collect-requires : goal.collect-requires
-collect-requires c =
-    let h = row_nodes _ _ _ _ c.read-answer.ensures c.if-code-ne0.false in (omega arith, omega arith)
+collect-requires c = let h = row_nodes _ _ _ _ c.in-Ok.ensures refl in (omega arith, omega arith)
 
-pub returns : goal.returns
-returns c =
-    row_accepted _ _ _ _ c.read-answer.ensures _ _ _ c.clear_words.ensures c.if-code-ne0.false _ c.collect.ensures
+pub overflow_cast-result-in-Err : goal.overflow_cast-result-in-Err
+overflow_cast-result-in-Err c = let h = row_small _ _ _ _ c.in-Err.ensures (no-refusal _) in omega arith
+
+pub returns-in-Ok : goal.returns-in-Ok
+returns-in-Ok c = row_accepted _ _ _ _ c.in-Ok.ensures _ _ _ c.clear_words.ensures refl _ c.collect.ensures
+
+pub returns-in-Err : goal.returns-in-Err
+returns-in-Err c = rw c.from.ensures (row_refused _ _ _ _ c.in-Err.ensures _ _ _ c.clear_words.ensures (no-refusal _))

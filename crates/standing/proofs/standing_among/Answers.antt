@@ -6,4 +6,4 @@ use Rattle.standing.proofs.standing_among.Goals as goal
 pub returns : goal.returns
 returns c =
     let a = c.args in
-    c.standing_of.ensures ∙ standing-in a.w a.v a.n a.sets.now _ c.closure.ensures a.states.now a.i c.requires.5
+    (simp (c.over.ensures.width, c.over.ensures.rows) at c.standing_of.ensures) ∙ standing-in a.w a.v a.n a.sets.now c.over.result.words.now c.over.ensures.closed a.states.now a.i c.requires.5

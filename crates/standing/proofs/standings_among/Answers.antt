@@ -6,5 +6,5 @@ use Rattle.standing.proofs.standings_among.Goals as goal
 pub returns : goal.returns
 returns c =
     let a = c.args in
-    c.fill_standings.ensures
-    ∙ filled-cong _ _ _ _ (λ i hi. standing-in a.w a.v a.n a.sets.now _ c.closure.ensures a.states.now i hi)
+    (simp (c.over.ensures.width, c.over.ensures.rows) at c.fill_standings.ensures)
+    ∙ filled-cong _ _ _ _ (λ i hi. standing-in a.w a.v a.n a.sets.now c.over.result.words.now c.over.ensures.closed a.states.now i hi)

@@ -6,4 +6,4 @@ use Rattle.standing.proofs.unmark_among.Goals as goal
 pub returns : goal.returns
 returns c =
     let a = c.args in
-    c.unmark.ensures ∙ loses_in a.w a.v a.n a.sets.now _ c.closure.ensures a.i c.requires.5 a.marks.now
+    (simp (c.over.ensures.width, c.over.ensures.rows) at c.unmark.ensures) ∙ loses_in a.w a.v a.n a.sets.now c.over.result.words.now c.over.ensures.closed a.i c.requires.5 a.marks.now

@@ -1,35 +1,34 @@
 -- `sheet::acks::ack_row` meets its contract. Assumes nothing.
-use mathlib.Core.Path.{sym, ◌∙◌}
+use mathlib.Core.Path.{sym, refl}
 use native.Mathlib.Omega.{arith}
-use Rattle.answer.proofs.Admits.{row_ok}
+use Rattle.std.proofs.lemmas.Result.{err_from_is_err_and}
+use Rattle.answer.proofs.Admits.{row_ok, refused}
 use Rattle.sheet.proofs.Acknowledging.{no_row, not_due, done}
 use Rattle.sheet.proofs.acks.ack_row.Goals as goal
 
-pub returns-then-no-ne0 : goal.returns-then-no-ne0
-returns-then-no-ne0 c = no_row _ _ _ _ c.row_code-no.ensures c.if-no-ne0.true
+pub returns-in_err-check_row : goal.returns-in_err-check_row
+returns-in_err-check_row c =
+    let p = err_from_is_err_and c.from_residual.result c.from_residual.ensures.1 in
+    rw (p.1, p.2) (no_row _ _ _ _ c.in_err-check_row.ensures (refused c.in_err-check_row.field-0.0))
 
-pub overflow_sub-i : goal.overflow_sub-i
-overflow_sub-i c = omega (arith, (row_ok _ _ (sym c.row_code-no.ensures ∙ c.if-no-ne0.false)).low)
-
-pub bounds-standings-i : goal.bounds-standings-i
-bounds-standings-i c =
-    let w = row_ok _ _ (sym c.row_code-no.ensures ∙ c.if-no-ne0.false) in
-    omega (arith, w.low, w.high, c.requires.0)
-
-pub bounds-marks-i : goal.bounds-marks-i
-bounds-marks-i c =
-    let w = row_ok _ _ (sym c.row_code-no.ensures ∙ c.if-no-ne0.false) in
-    omega (arith, w.low, w.high, c.requires.1)
-
-pub returns-then-code-ne0 : goal.returns-then-code-ne0
-returns-then-code-ne0 c =
-    not_due _ _ _ _ c.row_code-no.ensures c.if-no-ne0.false c.ack_code-code.ensures c.if-code-ne0.true
-
-pub bounds-marks-i-2 : goal.bounds-marks-i-2
-bounds-marks-i-2 c =
-    let w = row_ok _ _ (sym c.row_code-no.ensures ∙ c.if-no-ne0.false) in
-    omega (arith, w.low, w.high, c.requires.1)
+pub returns-in_err-check_acknowledgement : goal.returns-in_err-check_acknowledgement
+returns-in_err-check_acknowledgement c =
+    let e = c.in_err-check_acknowledgement in
+    let r = c.from_residual-in_err-check_acknowledgement in
+    let p = err_from_is_err_and r.result r.ensures.1 in
+    rw (p.1, p.2) (not_due _ _ _ _ (sym c.in_ok-check_row.ensures) e.ensures (refused e.field-0.0))
 
 pub returns : goal.returns
-returns c =
-    done _ _ _ _ c.row_code-no.ensures c.if-no-ne0.false c.ack_code-code.ensures c.if-code-ne0.false
+returns c = done _ _ _ _ (sym c.in_ok-check_row.ensures) c.in_ok-check_acknowledgement.ensures refl
+
+pub overflow_sub-i : goal.overflow_sub-i
+overflow_sub-i c = let w = row_ok _ _ (sym c.in_ok-check_row.ensures) in omega arith
+
+pub bounds-standings-i : goal.bounds-standings-i
+bounds-standings-i c = let w = row_ok _ _ (sym c.in_ok-check_row.ensures) in omega arith
+
+pub bounds-marks-i : goal.bounds-marks-i
+bounds-marks-i c = let w = row_ok _ _ (sym c.in_ok-check_row.ensures) in omega arith
+
+pub bounds-marks-i-2 : goal.bounds-marks-i-2
+bounds-marks-i-2 c = let w = row_ok _ _ (sym c.in_ok-check_row.ensures) in omega arith

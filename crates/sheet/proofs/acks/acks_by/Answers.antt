@@ -11,8 +11,8 @@ use Rattle.sheet.proofs.acks.acks_by.Goals as goal
 pub loop-left-init : goal.loop-left-init
 loop-left-init c = (search rules, search rules, (λ q new p. p), refl)
 
-pub ack_row-code-requires : goal.ack_row-code-requires
-ack_row-code-requires c =
+pub ack_row-told-requires : goal.ack_row-told-requires
+ack_row-told-requires c =
     (c.requires.0, omega (arith, c.loop-left.invariant.1, c.requires.1))
 
 pub shape_of-out-in-Bad : goal.shape_of-out-in-Bad
@@ -27,7 +27,7 @@ returns-in-Bad c =
 
 pub loop-left-preserved : goal.loop-left-preserved
 loop-left-preserved c =
-    let e = list_next (checked_at _) (λ v next. v) _ c.checked_at.ensures _ c.loop-left-test.true c.in-Good.is in let i = c.loop-left.invariant in let p = c.ack_row-code.ensures in (c.ack_line_to-end.auto.out ∙ i.0, ap length p.1 ∙ length_ack _ _ _ _ ∙ i.1, (λ q new t. i.2 q new (lines_next _ _ _ _ e p.1 p.0 _ _ q _ _ new c.ack_line_to-end.ensures t)), marks_next _ _ _ _ e p.1 i.3)
+    let e = list_next (checked_at _) (λ v next. v) _ c.checked_at.ensures _ c.loop-left-test.true c.in-Good.is in let i = c.loop-left.invariant in let p = c.ack_row-told.ensures in (c.ack_line_to-end.auto.out ∙ i.0, ap length p.1 ∙ length_ack _ _ _ _ ∙ i.1, (λ q new t. i.2 q new (lines_next _ _ _ _ e p.1 (c.number_in.ensures ∙ p.0) _ _ q _ _ new c.ack_line_to-end.ensures t)), marks_next _ _ _ _ e p.1 i.3)
 
 pub shape_of-out : goal.shape_of-out
 shape_of-out c = c.loop-left.invariant.0

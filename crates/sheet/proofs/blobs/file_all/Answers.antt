@@ -5,6 +5,8 @@ use native.Mathlib.Omega.{arith}
 use Rattle.number.specs.Blob.{blob_at}
 use Rattle.number.proofs.Blobs.{blob-within}
 use Rattle.layout.proofs.Lists.{list_none, list_cut, list_next}
+use Rattle.answer.specs.Answers.{number_in}
+use Rattle.register.specs.Calls.{changed}
 use Rattle.sheet.proofs.Filed.{filed-none, filed-next}
 use Rattle.sheet.proofs.blobs.file_all.Goals as goal
 
@@ -38,7 +40,7 @@ overflow_add-row c =
 
 pub loop-left-preserved : goal.loop-left-preserved
 loop-left-preserved c =
-    (omega (arith, c.loop-left.invariant.0, c.loop-left-test.true), filed-next _ _ _ _ c.loop-left.invariant.1 _ _ _ _ (blob-within _ _ c.blob_at.ensures c.in-Good.is).0 (list_next (blob_at _) _ _ c.blob_at.ensures _ c.loop-left-test.true c.in-Good.is) _ _ c.file-changed.ensures, c.file-changed.auto.sets ∙ c.loop-left.invariant.2)
+    (omega (arith, c.loop-left.invariant.0, c.loop-left-test.true), filed-next _ _ _ _ c.loop-left.invariant.1 _ _ _ _ (blob-within _ _ c.blob_at.ensures c.in-Good.is).0 (list_next (blob_at _) _ _ c.blob_at.ensures _ c.loop-left-test.true c.in-Good.is) (changed (number_in c.file.result) c.file.new.self) _ c.file.ensures, c.file.auto.sets ∙ c.loop-left.invariant.2)
 
 pub shape_of-sets : goal.shape_of-sets
 shape_of-sets c = c.loop-left.invariant.2

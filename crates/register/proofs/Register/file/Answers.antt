@@ -1,0 +1,17 @@
+-- `register::Register::file` meets its contract. Assumes nothing.
+use borrow.Author.Tests.{eq-eqb, ne_eqb}
+use mathlib.Core.Path.{sym}
+use Rattle.std.proofs.lemmas.Result.{err_from_is_err_and}
+use Rattle.answer.proofs.Admits.{refused}
+use Rattle.register.specs.Calls.{file_of}
+use Rattle.register.proofs.Register.file.Goals as goal
+
+pub returns-in_err-i : goal.returns-in_err-i
+unfolding file_of
+returns-in_err-i c =
+    let p = err_from_is_err_and c.from_residual.result c.from_residual.ensures.1 in
+    rw (p.1, p.2) (simp (← c.in_err-i.ensures.code, ne_eqb _ _ (refused c.in_err-i.field-0.0)))
+
+pub returns : goal.returns
+unfolding file_of
+returns c = simp (← c.in_ok-i.ensures.index.0, eq-eqb _ _ (sym c.in_ok-i.ensures.code)) c.file_at.ensures
