@@ -1,5 +1,4 @@
-pub mod Items
-pub mod Walks
 pub mod Lists
+pub mod Walks
 pub mod Sound
 pub mod Complete

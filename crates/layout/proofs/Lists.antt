@@ -5,9 +5,10 @@ use mathlib.Core.Path.{◌≡◌, refl, sym, ap, ◌∙◌, subst}
 use mathlib.Core.List.{List, [], ◌∷◌}
 use native.Mathlib.Omega.{arith}
 use lib.ListN.{length}
-use Rattle.number.specs.Checked.{on_checked}
-use Rattle.number.specs.declared.checked.Checked.{Checked}
-use Rattle.number.specs.declared.checked.Checked.TheVariants.{Good, Bad}
+use Rattle.number.specs.Checked.{Checked, on_checked}
+use Rattle.std.specs.Prelude.{Ok, Err}
+use Rattle.answer.specs.declared.refusal.Refusal.{Refusal}
+use Rattle.number.specs.Number.{found}
 use Rattle.layout.specs.Layout.{list_from}
 
 module _ {A : Type 0} (item : ℕ → Checked) (value : ℕ → ℕ → A) (at : ℕ) where
@@ -20,12 +21,12 @@ module _ {A : Type 0} (item : ℕ → Checked) (value : ℕ → ℕ → A) (at :
   list_none (suc k) h = absurd (omega arith)
 
   module _ {r : Checked} (er : r ≡ item at) where
-    pub list_cut : (left : ℕ) → 0 < left → {refusal : ℕ} → r ≡ Bad refusal → list_from item value left at ≡ []
+    pub list_cut : (left : ℕ) → 0 < left → {refusal : Refusal} → r ≡ Err refusal → list_from item value left at ≡ []
     unfolding list_from
     list_cut zero h e = absurd (omega arith)
     list_cut (suc k) h e = ap (begun k) (sym er ∙ e)
 
-    pub list_next : (left : ℕ) → 0 < left → {v next : ℕ} → r ≡ Good v next → list_from item value left at ≡ value v next ∷ list_from item value (left - 1) next
+    pub list_next : (left : ℕ) → 0 < left → {v next : ℕ} → r ≡ found v next → list_from item value left at ≡ value v next ∷ list_from item value (left - 1) next
     unfolding list_from
     list_next zero h e = absurd (omega arith)
     list_next (suc k) h {v} {next} e =
@@ -40,5 +41,5 @@ list_length {A} item value (suc k) at = picked (item at) (λ next. list_length i
   where
     picked : (c : Checked) → ((next : ℕ) → length (list_from item value k next) ≤ k)
         → length (on_checked c (λ v next. value v next ∷ list_from item value k next) (λ refusal. [])) ≤ suc k
-    picked (Good v next) h = let z = h next in omega arith
-    picked (Bad refusal) h = omega arith
+    picked (Ok n) h = let z = h n.next in omega arith
+    picked (Err refusal) h = omega arith

@@ -5,70 +5,70 @@ use mathlib.Core.Path.{◌≡◌, sym, ap, ◌∙◌, subst}
 use mathlib.Core.List.{List}
 use mathlib.Core.Bool.{cond}
 use native.Mathlib.Omega.{arith}
-use lib.ListN.{length}
+use lib.ListN.{length, get_or, drop, drop_of_length-le}
+use lib.Dec.{ltb}
 use borrow.Author.Tests.{lt-ltb, le-ltb}
-use Rattle.number.specs.Checked.{on_checked}
-use Rattle.number.specs.declared.checked.Checked.{Checked}
-use Rattle.number.specs.declared.checked.Checked.TheVariants.{Good, Bad}
-use Rattle.layout.specs.Layout.{section_count, item_at, items, note_of, sections}
+use Rattle.std.specs.Prelude.{Ok, Err}
+use Rattle.std.proofs.lemmas.List.{at_drop_more}
+use Rattle.answer.specs.declared.refusal.Refusal.{Refusal}
+use Rattle.number.specs.declared.Number.{Number}
+use Rattle.number.specs.Checked.{Checked, on_checked}
+use Rattle.layout.specs.Layout.{Parsed, section_count, item_at, items, note_of, sections}
 use Rattle.layout.specs.declared.Layout.{Layout}
-use Rattle.layout.specs.declared.Parsed.{Parsed}
-use Rattle.layout.specs.declared.Parsed.TheVariants.{Refused, Accepted}
-
--- k items behind one
-abbrev behind : (ℕ → Checked) → (ℕ → Parsed) → (at k : ℕ) → Checked → Parsed
-behind item then at k c = on_checked c (λ v next. items item k next then) (λ code. Refused at)
+use Rattle.layout.specs.declared.Section.{Section}
 
 module _ (s : List ℕ) {w : Parsed} where
-  pub all_read : (i at : ℕ) (l : Layout) → i ≡ 3 → length s ≤ at → sections (3 - i) i s at l ≡ w → Accepted l ≡ w
-  unfolding sections
-  all_read i at l e h x =
-      sym (ap (λ b. cond b (Refused at) (Accepted l)) (le-ltb at (length s) h)) ∙ (let z : 3 - i ≡ 0 = omega (arith, e) in subst (λ k. sections k i s at l ≡ w) z x)
+  -- the sections of a list from its n-th on
+  module _ (is : List Section) (n at : ℕ) (l : Layout) (x : sections (drop n is) s at l ≡ w) where
+    module _ (h : length is ≤ n) where
+      ended : cond (ltb at (length s)) (Err at) (Ok l) ≡ w
+      unfolding sections
+      ended = subst (λ js. sections js s at l ≡ w) (drop_of_length-le is h) x
 
-  pub left_over : (i at : ℕ) (l : Layout) → i ≡ 3 → at < length s → sections (3 - i) i s at l ≡ w → Refused at ≡ w
-  unfolding sections
-  left_over i at l e h x =
-      sym (ap (λ b. cond b (Refused at) (Accepted l)) (lt-ltb at (length s) h)) ∙ (let z : 3 - i ≡ 0 = omega (arith, e) in subst (λ k. sections k i s at l ≡ w) z x)
+      pub all_read : length s ≤ at → Ok l ≡ w
+      all_read k = rw (le-ltb at (length s) k) at ended
 
-  -- a section that begins at an offset, its count first
-  module _ (i at : ℕ) (l : Layout) (h : i ≤ 3) (ne : i ≡ 3 → ⊥) (x : sections (3 - i) i s at l ≡ w) where
-    abbrev after : Checked → Parsed
-    after c = on_checked c (λ count next. items (item_at i s) count next (λ end. sections (2 - i) (i + 1) s end (note_of i count next l))) (λ code. Refused at)
+      pub left_over : at < length s → Err at ≡ w
+      left_over k = rw (lt-ltb at (length s) k) at ended
 
-    step : after (section_count i s at) ≡ w
-    unfolding sections
-    step = let z : 3 - i ≡ suc (2 - i) = omega (arith, ne) in subst (λ k. sections k i s at l ≡ w) z x
+    -- its count first
+    module _ (h : n < length is) (d : Section) where
+      abbrev i : Section
+      i = get_or is n d
 
-    pub count-bad : {r : Checked} → r ≡ section_count i s at → {refusal : ℕ} → r ≡ Bad refusal → Refused at ≡ w
-    count-bad er e = sym (ap after (sym er ∙ e)) ∙ step
+      abbrev after : Checked → Parsed
+      after c = on_checked c (λ count next. items (item_at i s) count next (λ end. sections (drop (n + 1) is) s end (note_of i count next l))) (λ code. Err at)
 
-    pub count-good : {r : Checked} → r ≡ section_count i s at → {v next : ℕ} → r ≡ Good v next → {l' : Layout} → l' ≡ note_of i v next l
-        → items (item_at i s) v next (λ end. sections (2 - i) (i + 1) s end l') ≡ w
-    count-good er {v} {next} e el = ap (λ y. items (item_at i s) v next (λ end. sections (2 - i) (i + 1) s end y)) el ∙ sym (ap after (sym er ∙ e)) ∙ step
+      step : after (section_count i s at) ≡ w
+      unfolding sections
+      step = sym (at_drop_more (λ js. sections js s at l) is n d h) ∙ x
 
-  -- so many items from an offset on
-  module _ (i at : ℕ) (then : ℕ → Parsed) where
-    pub item_bad : (left : ℕ) → 0 < left → items (item_at i s) left at then ≡ w
-        → {r : Checked} → r ≡ item_at i s at → {refusal : ℕ} → r ≡ Bad refusal → Refused at ≡ w
+      pub count-bad : {refusal : Refusal} → section_count i s at ≡ Err refusal → Err at ≡ w
+      count-bad e = sym (ap after e) ∙ step
+
+      pub count-good : {count : Number} → section_count i s at ≡ Ok count → {m : Layout} → m ≡ note_of i count.value count.next l → {k : ℕ} → k ≡ count.value
+          → items (item_at i s) k count.next (λ end. sections (drop (n + 1) is) s end m) ≡ w
+      count-good {count} e em ek = rw (em, ek) (sym (ap after e) ∙ step)
+
+-- so many items from an offset on
+module _ (item : ℕ → Checked) (at : ℕ) (then : ℕ → Parsed) where
+  abbrev behind : ℕ → Checked → Parsed
+  behind k c = on_checked c (λ v next. items item k next then) (λ code. Err at)
+
+  module _ {w : Parsed} where
+    pub item_bad : (left : ℕ) → 0 < left → items item left at then ≡ w → {refusal : Refusal} → item at ≡ Err refusal → Err at ≡ w
     unfolding items
-    item_bad zero h x er e = absurd (omega arith)
-    item_bad (suc k) h x er e = sym (ap (behind (item_at i s) then at k) (sym er ∙ e)) ∙ x
+    item_bad zero h x e = absurd (omega arith)
+    item_bad (suc k) h x e = sym (ap (behind k) e) ∙ x
 
-    pub item_good : (left : ℕ) → 0 < left → items (item_at i s) left at then ≡ w
-        → {r : Checked} → r ≡ item_at i s at → {v next : ℕ} → r ≡ Good v next → items (item_at i s) (left - 1) next then ≡ w
+    pub item_good : (left : ℕ) → 0 < left → items item left at then ≡ w → {n : Number} → item at ≡ Ok n → items item (left - 1) n.next then ≡ w
     unfolding items
-    item_good zero h x er e = absurd (omega arith)
-    item_good (suc k) h x er {v} {next} e =
+    item_good zero h x e = absurd (omega arith)
+    item_good (suc k) h x {n} e =
         let z : k ≡ suc k - 1 = omega arith in
-        subst (λ j. items (item_at i s) j next then ≡ w) z (sym (ap (behind (item_at i s) then at k) (sym er ∙ e)) ∙ x)
+        subst (λ j. items item j n.next then ≡ w) z (sym (ap (behind k) e) ∙ x)
 
-    items-read : (left : ℕ) → left ≤ 0 → items (item_at i s) left at then ≡ w → then at ≡ w
+    pub items-read : (left : ℕ) → left ≤ 0 → items item left at then ≡ w → then at ≡ w
     unfolding items
     items-read zero h x = x
     items-read (suc k) h x = absurd (omega arith)
-
-  pub section_read : (i at left : ℕ) (l : Layout) → left ≤ 0 → items (item_at i s) left at (λ end. sections (2 - i) (i + 1) s end l) ≡ w
-      → sections (3 - (i + 1)) (i + 1) s at l ≡ w
-  section_read i at left l h x =
-      let z : 2 - i ≡ 3 - (i + 1) = omega arith in
-      subst (λ k. sections k (i + 1) s at l ≡ w) z (items-read i at (λ end. sections (2 - i) (i + 1) s end l) left h x)

@@ -1,62 +1,71 @@
 -- Document 01, "Deposit sheet": "sections in a fixed order, each after its count", and the place of the first fault. What the sections hold is
 -- read where this leaves them.
-use Rattle.std.specs.Prelude.{ℕ, zero, suc, ◌+◌, ◌-◌, List, [], ◌∷◌, cond, length, take, drop, ltb, eqb}
-use Rattle.number.specs.Checked.{checked_at, count_at, on_checked}
+use Rattle.std.specs.Prelude.{ℕ, zero, suc, ◌-◌, List, [], ◌∷◌, cond, length, take, drop, ltb, Result, Ok, Err}
+use Rattle.number.specs.Checked.{Checked, checked_at, count_at, on_checked}
 use Rattle.number.specs.Blob.{blob_at}
 use Rattle.number.specs.Token.{row_counts, no_counts}
-use Rattle.number.specs.declared.checked.Checked.{Checked}
 use Rattle.number.specs.declared.token.Counts.{Counts}
 use Rattle.grammar.specs.Limits.{max_rows}
 use Rattle.answer.specs.Size.{max_size}
 use Rattle.layout.specs.declared.Layout.{Layout}
-use Rattle.layout.specs.declared.Parsed.{Parsed}
-use Rattle.layout.specs.declared.Parsed.TheVariants.{Refused, Accepted}
+use Rattle.layout.specs.declared.Section.{Section}
+
+-- a sheet's layout, or the place of its first fault
+abbrev pub Parsed : Type 0
+Parsed = Result Layout ℕ
 
 -- "Sheets over 65,536 bytes"
 abbrev pub max_sheet : ℕ
 max_sheet = 65536
 
--- the count of section 0, 1 or 2: "2, then TypeDef and TypeRef counts; number of TypeSpec blobs (1 to 64) ..; number of acknowledgements";
--- document 02, wish 8: "Raise it to 512, in .. the sheet"
-unfoldable pub section_count : ℕ → List ℕ → ℕ → Checked
-section_count i s at = cond (eqb i 0) (count_at 2 2 s at) (cond (eqb i 1) (count_at 1 max_size s at) (checked_at s at))
+-- the count of a section: "2, then TypeDef and TypeRef counts; number of TypeSpec blobs (1 to 64) ..; number of acknowledgements"; document 02,
+-- wish 8: "Raise it to 512, in .. the sheet"
+unfoldable pub section_count : Section → List ℕ → ℕ → Checked
+section_count Section.Counts s at = count_at 2 2 s at
+section_count Section.Blobs s at = count_at 1 max_size s at
+section_count Section.Acks s at = checked_at s at
 
--- an item of section 0, 1 or 2: a table count, a blob, a row
-unfoldable pub item_at : ℕ → List ℕ → ℕ → Checked
-item_at i s at = cond (eqb i 0) (count_at 0 max_rows s at) (cond (eqb i 1) (blob_at s at) (checked_at s at))
+-- an item of a section: a table count, a blob, a row
+unfoldable pub item_at : Section → List ℕ → ℕ → Checked
+item_at Section.Counts s at = count_at 0 max_rows s at
+item_at Section.Blobs s at = blob_at s at
+item_at Section.Acks s at = checked_at s at
 
 -- so many items, one after the other: "Reading stops at the first fault"
 unfoldable pub items : (ℕ → Checked) → ℕ → ℕ → (ℕ → Parsed) → Parsed
 items item zero at then = then at
-items item (suc k) at then = on_checked (item at) (λ v next. items item k next then) (λ code. Refused at)
+items item (suc k) at then = on_checked (item at) (λ v next. items item k next then) (λ code. Err at)
 
 -- the offsets at which the items of the sections begin, and how many blobs and acknowledgements there are
 abbrev pub laid_out : (counts blobs acks rows acknowledged : ℕ) → Layout
 laid_out counts blobs acks rows acknowledged = record { starts = record { counts = counts; blobs = blobs; acks = acks }; rows = rows; acknowledged = acknowledged }
 
 -- the layout when the count of a section was read, and the offset after it
-unfoldable pub note_of : ℕ → (count next : ℕ) → Layout → Layout
-note_of i count next l =
-    cond (eqb i 0) (laid_out next l.starts.blobs l.starts.acks l.rows l.acknowledged)
-    (cond (eqb i 1) (laid_out l.starts.counts next l.starts.acks count l.acknowledged)
-    (laid_out l.starts.counts l.starts.blobs next l.rows count))
+unfoldable pub note_of : Section → (count next : ℕ) → Layout → Layout
+note_of Section.Counts count next l = laid_out next l.starts.blobs l.starts.acks l.rows l.acknowledged
+note_of Section.Blobs count next l = laid_out l.starts.counts next l.starts.acks count l.acknowledged
+note_of Section.Acks count next l = laid_out l.starts.counts l.starts.blobs next l.rows count
 
 abbrev pub blank_layout : Layout
 blank_layout = laid_out 0 0 0 0 0
 
--- k sections from section i on, then "the first left over"
-unfoldable pub sections : (k i : ℕ) → List ℕ → ℕ → Layout → Parsed
-sections zero i s at l = cond (ltb at (length s)) (Refused at) (Accepted l)
-sections (suc k) i s at l =
-    on_checked (section_count i s at) (λ count next. items (item_at i s) count next (λ end. sections k (i + 1) s end (note_of i count next l)))
-    (λ code. Refused at)
+-- the sections, one after the other, then "the first left over"
+unfoldable pub sections : List Section → List ℕ → ℕ → Layout → Parsed
+sections [] s at l = cond (ltb at (length s)) (Err at) (Ok l)
+sections (i ∷ is) s at l =
+    on_checked (section_count i s at) (λ count next. items (item_at i s) count next (λ end. sections is s end (note_of i count next l)))
+    (λ code. Err at)
+
+-- "sections in a fixed order"
+abbrev pub all_sections : List Section
+all_sections = Section.Counts ∷ Section.Blobs ∷ Section.Acks ∷ []
 
 abbrev pub sections_of : List ℕ → Parsed
-sections_of s = sections 3 0 s 0 blank_layout
+sections_of s = sections all_sections s 0 blank_layout
 
 -- "65536, tested before all else"
 unfoldable pub layout_of : List ℕ → Parsed
-layout_of s = cond (ltb max_sheet (length s)) (Refused max_sheet) (sections_of s)
+layout_of s = cond (ltb max_sheet (length s)) (Err max_sheet) (sections_of s)
 
 -- ---- What stands in the sections of an accepted sheet.
 

@@ -5,17 +5,29 @@ ghost use Rattle.std.specs.Prelude.{◌≡◌};
 ghost use Rattle.layout.specs.Layout.{section_count, item_at, note_of, sections_of, layout_of, counts_of};
 
 use answer::MAX_SIZE;
+use answer::refusal::Refusal;
 use grammar::MAX_ROWS;
-use number::checked::Checked;
+use number::Number;
+use number::blob::blob_at;
+use number::checked::{checked_at, count_at};
 use number::token::{Counts, no_counts, row_counts};
 
 // The most bytes of a sheet.
 pub const MAX_SHEET: usize = 65536;
 
-const SECTIONS: usize = 3;
+// What a sheet lists: its table counts, its blobs and its acknowledgements.
+#[derive(Clone, Copy, Debug, PartialEq, Eq)]
+enum Section {
+    Counts,
+    Blobs,
+    Acks,
+}
+
+// The sections in their order.
+const SECTIONS: [Section; 3] = [Section::Counts, Section::Blobs, Section::Acks];
 
 // The offsets at which the items of each section begin.
-#[derive(Clone, Copy)]
+#[derive(Clone, Copy, Debug, PartialEq, Eq)]
 pub struct Starts {
     pub counts: usize,
     pub blobs: usize,
@@ -23,65 +35,59 @@ pub struct Starts {
 }
 
 // Where the items begin, how many blobs there are, which is the number of rows, and how many acknowledgements.
-#[derive(Clone, Copy)]
+#[derive(Clone, Copy, Debug, PartialEq, Eq)]
 pub struct Layout {
     pub starts: Starts,
     pub rows: u32,
     pub acknowledged: u32,
 }
 
-// A sheet's layout, or the place of its first fault.
-#[derive(Clone, Copy)]
-pub enum Parsed {
-    Refused(usize),
-    Accepted(Layout),
-}
-
 // The count of a section.
-fn section_count(s: &[u8], section: usize, at: usize) -> Checked
+#[tactic(auto, unfolding(crate::specs::Layout::section_count))]
+fn section_count(s: &[u8], section: Section, at: usize) -> Result<Number, Refusal>
     ensures { result ≡ section_count section s.now at }
 {
     match section {
-        0 => number::checked::count_at(s, at, 2, 2),
-        1 => number::checked::count_at(s, at, 1, MAX_SIZE as u32),
-        _ => number::checked::checked_at(s, at),
+        Section::Counts => count_at(s, at, 2, 2),
+        Section::Blobs => count_at(s, at, 1, MAX_SIZE as u32),
+        Section::Acks => checked_at(s, at),
     }
 }
 
 // An item of a section: its number and the offset after it.
-fn item_at(s: &[u8], section: usize, at: usize) -> Checked
+#[tactic(auto, unfolding(crate::specs::Layout::item_at))]
+fn item_at(s: &[u8], section: Section, at: usize) -> Result<Number, Refusal>
     ensures { result ≡ item_at section s.now at }
 {
     match section {
-        0 => number::checked::count_at(s, at, 0, MAX_ROWS),
-        1 => number::blob::blob_at(s, at),
-        _ => number::checked::checked_at(s, at),
+        Section::Counts => count_at(s, at, 0, MAX_ROWS),
+        Section::Blobs => blob_at(s, at),
+        Section::Acks => checked_at(s, at),
     }
 }
 
 // Notes where the items of a section begin, and how many there are.
-fn note(layout: Layout, section: usize, count: u32, next: usize) -> Layout
-    ensures { result ≡ note_of section count next layout }
+#[tactic(auto, unfolding(crate::specs::Layout::note_of))]
+fn note(layout: Layout, section: Section, count: Number) -> Layout
+    ensures { result ≡ note_of section count.value count.next layout }
 {
     let mut l = layout;
     match section {
-        0 => {
-            l.starts.counts = next;
+        Section::Counts => l.starts.counts = count.next,
+        Section::Blobs => {
+            l.starts.blobs = count.next;
+            l.rows = count.value;
         }
-        1 => {
-            l.starts.blobs = next;
-            l.rows = count;
-        }
-        _ => {
-            l.starts.acks = next;
-            l.acknowledged = count;
+        Section::Acks => {
+            l.starts.acks = count.next;
+            l.acknowledged = count.value;
         }
     }
     l
 }
 
 // Reads the sections in their order; the label leaves both loops with the place of the first fault.
-fn sections_of(s: &[u8]) -> Parsed
+fn sections_of(s: &[u8]) -> Result<Layout, usize>
     ensures { result ≡ sections_of s.now }
 {
     let starts = Starts {
@@ -95,57 +101,50 @@ fn sections_of(s: &[u8]) -> Parsed
         acknowledged: 0,
     };
     let mut at = 0;
-    let mut section = 0;
-    let place = 'sheet: loop {
-        if section == SECTIONS {
-            if at < s.len() {
-                break 'sheet at;
+    let place = 'sheet: {
+        for section in SECTIONS {
+            match section_count(s, section, at) {
+                Ok(count) => {
+                    layout = note(layout, section, count);
+                    at = count.next;
+                    for _ in 0..count.value {
+                        match item_at(s, section, at) {
+                            Ok(item) => at = item.next,
+                            Err(_) => break 'sheet at,
+                        }
+                    }
+                }
+                Err(_) => break 'sheet at,
             }
-            return Parsed::Accepted(layout);
         }
-        let mut left = 0;
-        match section_count(s, section, at) {
-            Checked::Good { value, next } => {
-                left = value;
-                at = next;
-                layout = note(layout, section, value, next);
-            }
-            Checked::Bad { refusal: _ } => break 'sheet at,
+        if at < s.len() {
+            break 'sheet at;
         }
-        while 0 < left {
-            match item_at(s, section, at) {
-                Checked::Good { value: _, next } => at = next,
-                Checked::Bad { refusal: _ } => break 'sheet at,
-            }
-            left -= 1;
-        }
-        section += 1;
+        return Ok(layout);
     };
-    Parsed::Refused(place)
+    Err(place)
 }
 
-// The layout of a sheet.
-pub fn layout_of(s: &[u8]) -> Parsed
+// The layout of a sheet, or the place of its first fault.
+#[tactic(auto, unfolding(crate::specs::Layout::layout_of))]
+pub fn layout_of(s: &[u8]) -> Result<Layout, usize>
     ensures { result ≡ layout_of s.now }
 {
     if MAX_SHEET < s.len() {
-        return Parsed::Refused(MAX_SHEET);
+        return Err(MAX_SHEET);
     }
     sections_of(s)
 }
 
 // The table counts of an accepted sheet.
+#[tactic(auto, unfolding(crate::specs::Layout::counts_of))]
 pub fn counts_of(s: &[u8], layout: Layout) -> Counts
     ensures { result ≡ counts_of s.now layout }
 {
-    match number::checked::checked_at(s, layout.starts.counts) {
-        Checked::Good { value: defs, next } => match number::checked::checked_at(s, next) {
-            Checked::Good {
-                value: refs,
-                next: _,
-            } => row_counts(defs, refs, layout.rows),
-            Checked::Bad { refusal: _ } => no_counts(),
-        },
-        Checked::Bad { refusal: _ } => no_counts(),
+    if let Ok(defs) = checked_at(s, layout.starts.counts)
+        && let Ok(refs) = checked_at(s, defs.next)
+    {
+        return row_counts(defs.value, refs.value, layout.rows);
     }
+    no_counts()
 }

@@ -102,9 +102,9 @@ fn read_both(
 ) -> io::Result<usize> {
     let second = record_of(case, table, 0).answer;
     let first = reader::read(case.kind, case.counts, case.blob, flat);
-    print!(rt; "{}, read {}", Outcome(second), Outcome(first))?;
+    print!(rt; "{}, read {}", Outcome(second.into()), Outcome(first.into()))?;
     println!(rt; ", the tables agree to {}", agree(table, flat))?;
-    Ok(if first.code == 0 { first.place } else { 0 })
+    Ok(first.unwrap_or(0))
 }
 
 // Reads a blob into the two tables that are lent.

@@ -60,19 +60,19 @@ fn run(rt: &impl Print, table: &mut [u32], case: Case<'_>) -> io::Result<()> {
     print!(rt;
         "kind {kind}, {} bytes: judged {}",
         blob.len(),
-        Outcome(judged)
+        Outcome(judged.into())
     )?;
     print!(rt;
         ", read {}, numbers written {}",
-        Outcome(read),
+        Outcome(read.into()),
         changed(table)
     )?;
     println!(rt; ", sum {}", checksum(table))?;
-    if read.code == 0 {
-        if let Some(records) = table.get(..read.place.saturating_mul(6)) {
-            show_records(rt, records)?;
-            write_back(rt, records, case)?;
-        }
+    if let Ok(nodes) = read
+        && let Some(records) = table.get(..nodes.saturating_mul(6))
+    {
+        show_records(rt, records)?;
+        write_back(rt, records, case)?;
     }
     Ok(())
 }

@@ -1,6 +1,6 @@
 // ECMA-335's examples of compressed numbers, read and written, and document 01's refusals of numbers.
 use cases::print::Bytes;
-use number::Number;
+use number::{Number, NumberError};
 use std::io;
 
 const READ: [&[u8]; 7] = [
@@ -30,10 +30,10 @@ const WRITTEN: [u32; 8] = [
 // What stands at the front of `s`: a value and the offset after it, or why there is none.
 fn show_read(rt: &impl Print, s: &[u8]) -> io::Result<()> {
     match number::number_at(s, 0) {
-        Number::Value { value, next } => println!(rt; "{value:x} next {next}"),
-        Number::Cut => println!(rt; "cut"),
-        Number::BadByte => println!(rt; "bad first byte"),
-        Number::TooLong => println!(rt; "longer than needed"),
+        Ok(Number { value, next }) => println!(rt; "{value:x} next {next}"),
+        Err(NumberError::Cut) => println!(rt; "cut"),
+        Err(NumberError::BadByte) => println!(rt; "bad first byte"),
+        Err(NumberError::TooLong) => println!(rt; "longer than needed"),
     }
 }
 
