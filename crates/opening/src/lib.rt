@@ -13,6 +13,7 @@ use number::Number;
 
 pub mod shape;
 pub mod signatures;
+pub mod source;
 pub mod table;
 pub mod types;
 

@@ -1,5 +1,5 @@
 // What stands behind an array's type: Rank, the sizes and the low bounds, which give the array's own numbers.
-ghost use Rattle.std.specs.Prelude.{◌≤◌, length};
+ghost use Rattle.std.specs.Prelude.{◌≤◌};
 ghost use Rattle.grammar.specs.Limits.{max_bytes, max_nodes};
 ghost use Rattle.grammar.specs.Judge.{bound, many};
 ghost use Rattle.number.specs.Number.{found};
@@ -7,6 +7,7 @@ ghost use Rattle.opening.specs.End.{ended};
 ghost use Rattle.opening.specs.Walk.{Walked};
 ghost use Rattle.opening.specs.Shape.{bound_at, shape_at, Shaped};
 
+use crate::source::Source;
 use crate::table::seal;
 use crate::{Head, head_of, placed};
 use answer::refusal::{Fault, Refusal};
@@ -50,15 +51,14 @@ fn bound_of(
 fn bound_at(
     out: &mut [u32],
     d: usize,
-    src: &[u8],
+    src: &Source,
     kind: u32,
     at: usize,
     n: usize,
 ) -> Result<Position, Fault>
-    requires { length src.now ≤ max_bytes }
-    ensures { Walked (bound_at kind d src.now at n) n (ended result) out.old out.new }
+    ensures { Walked (bound_at kind d src.now.bytes.now at n) n (ended result) out.old out.new }
 {
-    let number = placed(checked_at(src, at), at)?;
+    let number = placed(checked_at(src.bytes, at), at)?;
     bound_of(out, d, kind, number, at, n)
 }
 
@@ -66,18 +66,17 @@ fn bound_at(
 fn bounds_at(
     out: &mut [u32],
     d: usize,
-    src: &[u8],
+    src: &Source,
     kind: u32,
     count: u32,
     at: usize,
     n: usize,
 ) -> Result<Position, Fault>
-    requires { length src.now ≤ max_bytes }
-    ensures { Walked (many (bound_at kind d src.now) count at n) n (ended result) out.old out.new }
+    ensures { Walked (many (bound_at kind d src.now.bytes.now) count at n) n (ended result) out.old out.new }
 {
     let mut end = Position { at, node: n };
     for _ in 0..count {
-        end = bound_at(out, d, &*src, kind, end.at, end.node)?;
+        end = bound_at(out, d, src, kind, end.at, end.node)?;
     }
     Ok(end)
 }
@@ -86,19 +85,19 @@ fn bounds_at(
 pub fn shape_at(
     out: &mut [u32],
     d: usize,
-    src: &[u8],
+    src: &Source,
     kind: u32,
     at: usize,
     n: usize,
 ) -> Result<Shape, Fault>
-    requires { (length src.now ≤ max_bytes) × (n ≤ max_nodes) }
-    ensures { Shaped (shape_at d src.now kind at n) n result out.old out.new }
+    requires { n ≤ max_nodes }
+    ensures { Shaped (shape_at d src.now.bytes.now kind at n) n result out.old out.new }
 {
-    let rank = placed(count_at(src, at, 1, MAX_RANK), at)?;
-    let sizes = placed(count_at(src, rank.next, 0, rank.value), rank.next)?;
-    let sized = bounds_at(out, d, &*src, SIZE, sizes.value, sizes.next, n)?;
-    let lows = placed(count_at(src, sized.at, 0, rank.value), sized.at)?;
-    let end = bounds_at(out, d, &*src, LOW, lows.value, lows.next, sized.node)?;
+    let rank = placed(count_at(src.bytes, at, 1, MAX_RANK), at)?;
+    let sizes = placed(count_at(src.bytes, rank.next, 0, rank.value), rank.next)?;
+    let sized = bounds_at(out, d, src, SIZE, sizes.value, sizes.next, n)?;
+    let lows = placed(count_at(src.bytes, sized.at, 0, rank.value), sized.at)?;
+    let end = bounds_at(out, d, src, LOW, lows.value, lows.next, sized.node)?;
     let children = 1 + sizes.value + lows.value;
     Ok(Shape {
         head: head_of(kind, rank.value, sizes.value, children),

@@ -1,7 +1,6 @@
 // The walk over a blob: one cycle of calls over the depth left, with the lent table written inside it. A node's record is put where it fits, after
 // its children are read; that of a node with one child before, and the index after its subtree is corrected then. So the same walk judges, on an
-// empty part of the table, and fills. A slice is passed on as a reborrow, `&*src`, which the compiler keeps in registers where it copies `src`
-// through memory.
+// empty part of the table, and fills.
 #![tactic(auto)]
 
 ghost use Rattle.std.specs.Prelude.{◌≡◌, true, false, ◌+◌, ◌≤◌, ◌<◌, length};
@@ -21,6 +20,7 @@ use grammar::{MAX_DEPTH, Position};
 use number::token::Counts;
 use opening::shape::shape_at;
 use opening::signatures::{Lead, fn_ptr_lead_at, lead_at};
+use opening::source::Source;
 use opening::table::{close, seal};
 use opening::types::{Open, open_at};
 use opening::{Head, head_of};
@@ -37,16 +37,15 @@ pub struct Series {
 fn type_at(
     out: &mut [u32],
     d: usize,
-    src: &[u8],
-    counts: Counts,
+    src: &Source,
     place: Place,
     at: usize,
     n: usize,
 ) -> Result<Position, Fault>
-    requires { (length src.now ≤ max_bytes) × (is_type_place place ≡ true) }
-    ensures { Walked (node d src.now counts place at n) n (ended result) out.old out.new }
+    requires { is_type_place place ≡ true }
+    ensures { Walked (node d src.now.bytes.now src.now.counts place at n) n (ended result) out.old out.new }
 {
-    let types = types_at(out, d, &*src, counts, place, place, 1, at, n)?;
+    let types = types_at(out, d, src, place, place, 1, at, n)?;
     Ok(types.end)
 }
 
@@ -56,24 +55,25 @@ fn type_at(
 fn types_at(
     out: &mut [u32],
     d: usize,
-    src: &[u8],
-    counts: Counts,
+    src: &Source,
     place: Place,
     then: Place,
     count: u32,
     at: usize,
     n: usize,
 ) -> Result<Series, Fault>
-    requires { (length src.now ≤ max_bytes) × (is_type_place place ≡ true) × (is_type_place then ≡ true) }
-    ensures { WalkedSeries (series (node d src.now counts place) (node d src.now counts then) count at n) count n result out.old out.new }
+    requires { (is_type_place place ≡ true) × (is_type_place then ≡ true) }
+    ensures { WalkedSeries (series (node d src.now.bytes.now src.now.counts place) (node d src.now.bytes.now src.now.counts then) count at n) count n result out.old out.new }
 {
+    let bytes = src.bytes;
+    let counts = src.counts;
     let mut left = count;
     let mut e = at;
     let mut m = n;
     let mut p = place;
     let mut deep = d;
     while 0 < left {
-        let open = open_at(src, counts, p, e, m, deep)?;
+        let open = open_at(bytes, counts, p, e, m, deep)?;
         let end = match open {
             Open::Leaf { head, next } => {
                 seal(out, m, head, e, m + 1);
@@ -90,11 +90,9 @@ fn types_at(
                 deep -= 1;
                 continue;
             }
-            Open::List { head, next } => list_at(out, deep - 1, &*src, counts, head, next, e, m)?,
-            Open::FnPtr { head, next } => {
-                fn_ptr_at(out, deep - 1, &*src, counts, head, next, e, m)?
-            }
-            Open::Array { kind } => array_at(out, deep - 1, &*src, counts, kind, e, m)?,
+            Open::List { head, next } => list_at(out, deep - 1, src, head, next, e, m)?,
+            Open::FnPtr { head, next } => { fn_ptr_at(out, deep - 1, src, head, next, e, m)? }
+            Open::Array { kind } => array_at(out, deep - 1, src, kind, e, m)?,
         };
         close(out, m, d - deep, end.node);
         e = end.at;
@@ -114,19 +112,18 @@ fn types_at(
 fn list_at(
     out: &mut [u32],
     d: usize,
-    src: &[u8],
-    counts: Counts,
+    src: &Source,
     head: Head,
     next: usize,
     at: usize,
     n: usize,
 ) -> Result<Position, Fault>
-    requires { (length src.now ≤ max_bytes) × (at < length src.now) × (n < max_nodes) }
-    ensures { Walked (sealed (many (node d src.now counts Place.Type) head.children next (n + 1)) head at) n (ended result) out.old out.new }
+    requires { (at < length src.now.bytes.now) × (n < max_nodes) }
+    ensures { Walked (sealed (many (node d src.now.bytes.now src.now.counts Place.Type) head.children next (n + 1)) head at) n (ended result) out.old out.new }
 {
     let k = head.children;
     let place = Place::Type;
-    let types = types_at(out, d, &*src, counts, place, place, k, next, n + 1)?;
+    let types = types_at(out, d, src, place, place, k, next, n + 1)?;
     let end = types.end;
     seal(out, n, head, at, end.node);
     Ok(end)
@@ -137,17 +134,16 @@ fn list_at(
 fn fn_ptr_at(
     out: &mut [u32],
     d: usize,
-    src: &[u8],
-    counts: Counts,
+    src: &Source,
     head: Head,
     next: usize,
     at: usize,
     n: usize,
 ) -> Result<Position, Fault>
-    requires { (length src.now ≤ max_bytes) × (at < length src.now) × (n < max_nodes) }
-    ensures { Walked (sealed (node d src.now counts Place.FnPtrMethod next (n + 1)) head at) n (ended result) out.old out.new }
+    requires { (at < length src.now.bytes.now) × (n < max_nodes) }
+    ensures { Walked (sealed (node d src.now.bytes.now src.now.counts Place.FnPtrMethod next (n + 1)) head at) n (ended result) out.old out.new }
 {
-    let end = method_at(out, d, &*src, counts, next, n + 1)?;
+    let end = method_at(out, d, src, next, n + 1)?;
     seal(out, n, head, at, end.node);
     Ok(end)
 }
@@ -157,16 +153,14 @@ fn fn_ptr_at(
 fn method_at(
     out: &mut [u32],
     d: usize,
-    src: &[u8],
-    counts: Counts,
+    src: &Source,
     at: usize,
     n: usize,
 ) -> Result<Position, Fault>
-    requires { length src.now ≤ max_bytes }
-    ensures { Walked (node d src.now counts Place.FnPtrMethod at n) n (ended result) out.old out.new }
+    ensures { Walked (node d src.now.bytes.now src.now.counts Place.FnPtrMethod at n) n (ended result) out.old out.new }
 {
-    let lead = fn_ptr_lead_at(src, at, n, d)?;
-    signature_types_at(out, d - 1, &*src, counts, lead, at, n)
+    let lead = fn_ptr_lead_at(src.bytes, at, n, d)?;
+    signature_types_at(out, d - 1, src, lead, at, n)
 }
 
 // A signature from its types on, which have d levels left. Its record says how many were read. It becomes part of its two callers, so that each reads its
@@ -176,20 +170,19 @@ fn method_at(
 fn signature_types_at(
     out: &mut [u32],
     d: usize,
-    src: &[u8],
-    counts: Counts,
+    src: &Source,
     lead: Lead,
     at: usize,
     n: usize,
 ) -> Result<Position, Fault>
-    requires read { (length src.now ≤ max_bytes) × (at < length src.now) × (n < max_nodes) }
+    requires read { (at < length src.now.bytes.now) × (n < max_nodes) }
     requires places { (is_type_place lead.first ≡ true) × (is_type_place lead.rest ≡ true) }
-    ensures { Walked (signature_of (node d src.now) counts lead at n) n (ended result) out.old out.new }
+    ensures { Walked (signature_of (node d src.now.bytes.now) src.now.counts lead at n) n (ended result) out.old out.new }
 {
     let first = lead.first;
     let rest = lead.rest;
     let k = lead.count;
-    let types = types_at(out, d, &*src, counts, first, rest, k, lead.next, n + 1)?;
+    let types = types_at(out, d, src, first, rest, k, lead.next, n + 1)?;
     let end = types.end;
     let head = head_of(lead.kind, lead.a, lead.b, types.items);
     seal(out, n, head, at, end.node);
@@ -201,34 +194,28 @@ fn signature_types_at(
 fn array_at(
     out: &mut [u32],
     d: usize,
-    src: &[u8],
-    counts: Counts,
+    src: &Source,
     kind: u32,
     at: usize,
     n: usize,
 ) -> Result<Position, Fault>
-    requires { (length src.now ≤ max_bytes) × (at < length src.now) × (n < max_nodes) }
-    ensures { Walked (array (node d src.now) d src.now counts kind at n) n (ended result) out.old out.new }
+    requires { (at < length src.now.bytes.now) × (n < max_nodes) }
+    ensures { Walked (array (node d src.now.bytes.now) d src.now.bytes.now src.now.counts kind at n) n (ended result) out.old out.new }
 {
-    let typed = type_at(out, d, &*src, counts, Place::Type, at + 1, n + 1)?;
-    let shape = shape_at(out, d, &*src, kind, typed.at, typed.node)?;
+    let typed = type_at(out, d, src, Place::Type, at + 1, n + 1)?;
+    let shape = shape_at(out, d, src, kind, typed.at, typed.node)?;
     let end = shape.end;
     seal(out, n, shape.head, at, end.node);
     Ok(end)
 }
 
 // A root that is no type: a field, locals, a property or a method.
-fn signature_at(
-    out: &mut [u32],
-    src: &[u8],
-    counts: Counts,
-    place: Place,
-) -> Result<Position, Fault>
-    requires { (length src.now ≤ max_bytes) × (is_type_place place ≡ false) }
-    ensures { Walked (node max_depth src.now counts place 0 0) 0 (ended result) out.old out.new }
+fn signature_at(out: &mut [u32], src: &Source, place: Place) -> Result<Position, Fault>
+    requires { is_type_place place ≡ false }
+    ensures { Walked (node max_depth src.now.bytes.now src.now.counts place 0 0) 0 (ended result) out.old out.new }
 {
-    let lead = lead_at(src, place, 0, 0, MAX_DEPTH)?;
-    signature_types_at(out, MAX_DEPTH - 1, &*src, counts, lead, 0, 0)
+    let lead = lead_at(src.bytes, place, 0, 0, MAX_DEPTH)?;
+    signature_types_at(out, MAX_DEPTH - 1, src, lead, 0, 0)
 }
 
 // The root of a kind.
@@ -236,9 +223,10 @@ pub fn root_at(out: &mut [u32], kind: u32, counts: Counts, src: &[u8]) -> Result
     requires { length src.now ≤ max_bytes }
     ensures { Walked (node max_depth src.now counts (root_of kind) 0 0) 0 (ended result) out.old out.new }
 {
+    let source = Source { bytes: src, counts };
     let place = grammar::root_of(kind);
     if element::types::is_type_place(place) {
-        return type_at(out, MAX_DEPTH, &*src, counts, place, 0, 0);
+        return type_at(out, MAX_DEPTH, &source, place, 0, 0);
     }
-    signature_at(out, &*src, counts, place)
+    signature_at(out, &source, place)
 }

@@ -20,7 +20,7 @@ use Rattle.walk.proofs.+array_at_fn_ptr_at_list_at_method_at_signature_types_at_
 pub array_at-type_at-requires : goal.array_at-type_at-requires
 unfolding form_of entries bare leads
 array_at-type_at-requires t c =
-    (omega (arith, c.decreases), (c.requires.0, refl))
+    (omega (arith, c.decreases), refl)
 
 pub array_at-returns-in_err-typed : goal.array_at-returns-in_err-typed
 unfolding form_of entries bare leads ended
@@ -31,7 +31,7 @@ array_at-returns-in_err-typed t c =
 pub array_at-shape_at-requires : goal.array_at-shape_at-requires
 unfolding form_of entries bare leads ended
 array_at-shape_at-requires t c =
-    (c.requires.0, walked_next _ _ _ _ _ _ (ends-node _ _ _ _ _ _) (found _ _ _ _ _ _ (ap ended c.in_ok-typed.was) c.type_at.ensures))
+    walked_next _ _ _ _ _ _ (ends-node _ _ _ _ _ _) (found _ _ _ _ _ _ (ap ended c.in_ok-typed.was) c.type_at.ensures)
 
 pub array_at-returns-in_err-shape : goal.array_at-returns-in_err-shape
 unfolding form_of entries bare leads ended
@@ -42,17 +42,12 @@ array_at-returns-in_err-shape t c =
 pub array_at-seal-requires : goal.array_at-seal-requires
 unfolding form_of entries bare leads ended
 array_at-seal-requires t c =
-    (c.requires.2, omega (arith, c.requires), array-small _ _ _ _ _ _ _ _ _ c.type_at.ensures _ _ (ap ended c.in_ok-typed.was) _ _ c.shape_at.ensures _ c.in_ok-shape.was)
+    (c.requires.1, omega arith, array-small _ _ _ _ _ _ _ _ _ c.type_at.ensures _ _ (ap ended c.in_ok-typed.was) _ _ c.shape_at.ensures _ c.in_ok-shape.was)
 
 pub array_at-returns : goal.array_at-returns
 unfolding form_of entries bare leads ended
 array_at-returns t c =
     array-done _ _ _ _ _ _ _ _ _ c.type_at.ensures _ _ (ap ended c.in_ok-typed.was) _ _ c.shape_at.ensures _ c.in_ok-shape.was _ _ (seal_put _ _ _ _ _ c.seal.ensures)
-
-pub fn_ptr_at-method_at-requires : goal.fn_ptr_at-method_at-requires
-unfolding form_of entries bare leads
-fn_ptr_at-method_at-requires t c =
-    (omega (arith, c.decreases), c.requires.0)
 
 pub fn_ptr_at-returns-in_err-end : goal.fn_ptr_at-returns-in_err-end
 unfolding form_of entries bare leads ended
@@ -63,7 +58,7 @@ fn_ptr_at-returns-in_err-end t c =
 pub fn_ptr_at-seal-requires : goal.fn_ptr_at-seal-requires
 unfolding form_of entries bare leads ended
 fn_ptr_at-seal-requires t c =
-    (c.requires.2, omega (arith, c.requires), below-few _ _ c.args.head c.args.at _ _ _ c.method_at.ensures _ _ (ap ended c.in_ok-end.was) (ends-node _ _ _ _ _ _))
+    (c.requires.1, omega arith, below-few _ _ c.args.head c.args.at _ _ _ c.method_at.ensures _ _ (ap ended c.in_ok-end.was) (ends-node _ _ _ _ _ _))
 
 pub fn_ptr_at-returns : goal.fn_ptr_at-returns
 unfolding form_of entries bare leads ended
@@ -73,7 +68,7 @@ fn_ptr_at-returns t c =
 pub list_at-types_at-requires : goal.list_at-types_at-requires
 unfolding form_of entries bare leads
 list_at-types_at-requires t c =
-    (omega (arith, c.decreases), (c.requires.0, refl, refl))
+    (omega (arith, c.decreases), (refl, refl))
 
 pub list_at-returns-in_err-types : goal.list_at-returns-in_err-types
 unfolding form_of entries bare leads ended end_of
@@ -84,7 +79,7 @@ list_at-returns-in_err-types t c =
 pub list_at-seal-requires : goal.list_at-seal-requires
 unfolding form_of entries bare leads end_of
 list_at-seal-requires t c =
-    (c.requires.2, omega (arith, c.requires), below-few _ _ c.args.head c.args.at _ _ _ (listed _ _ _ _ _ _ _ c.types_at.ensures) _ _ (ap end_of c.in_ok-types.was) (ends-many _ (ends-node _ _ _ _) _ _ _ (omega (arith, c.requires.2))))
+    (c.requires.1, omega arith, below-few _ _ c.args.head c.args.at _ _ _ (listed _ _ _ _ _ _ _ c.types_at.ensures) _ _ (ap end_of c.in_ok-types.was) (ends-many _ (ends-node _ _ _ _) _ _ _ (omega (arith, c.requires.1))))
 
 pub list_at-returns : goal.list_at-returns
 unfolding form_of entries bare leads ended end_of
@@ -105,7 +100,7 @@ method_at-overflow_sub-d t c =
 pub method_at-signature_types_at-requires : goal.method_at-signature_types_at-requires
 unfolding form_of entries bare leads
 method_at-signature_types_at-requires t c =
-    let b = signature-bounds _ _ _ _ _ refl _ c.fn_ptr_lead_at.ensures _ c.in_ok-lead.was in (omega (arith, b, c.decreases), ((c.requires, b.1, b.2), (b.3, b.4)))
+    let b = signature-bounds _ _ _ _ _ refl _ c.fn_ptr_lead_at.ensures _ c.in_ok-lead.was in (omega (arith, b, c.decreases), ((b.1, b.2), (b.3, b.4)))
 
 pub method_at-returns : goal.method_at-returns
 unfolding form_of entries bare leads
@@ -115,7 +110,7 @@ method_at-returns t c =
 pub signature_types_at-types_at-requires : goal.signature_types_at-types_at-requires
 unfolding form_of entries bare leads
 signature_types_at-types_at-requires t c =
-    (omega (arith, c.decreases), (c.requires.read.0, c.requires.places.0, c.requires.places.1))
+    (omega (arith, c.decreases), c.requires.places)
 
 pub signature_types_at-returns-in_err-types : goal.signature_types_at-returns-in_err-types
 unfolding form_of entries bare leads ended end_of
@@ -126,7 +121,7 @@ signature_types_at-returns-in_err-types t c =
 pub signature_types_at-seal-requires : goal.signature_types_at-seal-requires
 unfolding form_of entries bare leads end_of
 signature_types_at-seal-requires t c =
-    (c.requires.read.2, omega (arith, c.requires), below-few _ _ c.head_of-head.result c.args.at _ _ _ c.types_at.ensures.walked _ _ (ap end_of c.in_ok-types.was) (ends-series _ _ (ends-node _ _ _ _) (ends-node _ _ _ _) _ _ _ (omega (arith, c.requires))))
+    (c.requires.read.1, omega arith, below-few _ _ c.head_of-head.result c.args.at _ _ _ c.types_at.ensures.walked _ _ (ap end_of c.in_ok-types.was) (ends-series _ _ (ends-node _ _ _ _) (ends-node _ _ _ _) _ _ _ (omega (arith, c.requires))))
 
 pub signature_types_at-returns : goal.signature_types_at-returns
 unfolding form_of entries bare leads ended end_of
@@ -136,7 +131,7 @@ signature_types_at-returns t c =
 pub type_at-types_at-requires : goal.type_at-types_at-requires
 unfolding form_of entries bare leads
 type_at-types_at-requires t c =
-    let q = c.requires in (omega (arith, c.decreases), (q.0, q.1, q.1))
+    let q = c.requires in (omega (arith, c.decreases), (q, q))
 
 pub type_at-returns-in_err-types : goal.type_at-returns-in_err-types
 unfolding form_of entries bare leads ended end_of
@@ -152,7 +147,7 @@ type_at-returns t c =
 pub types_at-loop-left-init : goal.types_at-loop-left-init
 unfolding form_of entries bare leads
 types_at-loop-left-init t c =
-    (refl, c.requires.1, omega arith, omega arith, λ h. pending_item _ _ _ _ _ _ _ _ h (omega arith) (ends-node _ _ _ _ _ _) (λ r fin y. y), λ h. series-end _ _ _ _ _ _ h)
+    (refl, c.requires.0, omega arith, omega arith, λ h. pending_item _ _ _ _ _ _ _ _ h (omega arith) (ends-node _ _ _ _ _ _) (λ r fin y. y), λ h. series-end _ _ _ _ _ _ h)
 
 pub types_at-open_at-requires : goal.types_at-open_at-requires
 unfolding form_of entries bare leads
@@ -179,7 +174,7 @@ types_at-overflow_add-end t c =
 pub types_at-seal-requires : goal.types_at-seal-requires
 unfolding form_of entries bare leads
 types_at-seal-requires t c =
-    let b = open_bounds _ _ _ _ _ _ c.loop-left.invariant.1 _ c.open_at.ensures _ (c.in_ok-open.was ∙ ap Ok c.in-Leaf.is) refl in (b.2, omega (arith, b, c.requires.0), omega (arith, b))
+    let b = open_bounds _ _ _ _ _ _ c.loop-left.invariant.1 _ c.open_at.ensures _ (c.in_ok-open.was ∙ ap Ok c.in-Leaf.is) refl in (b.2, omega (arith, b), omega (arith, b))
 
 pub types_at-overflow_add-m-in-One : goal.types_at-overflow_add-m-in-One
 unfolding form_of entries bare leads
@@ -194,7 +189,7 @@ types_at-overflow_add-m-in-One-2 t c =
 pub types_at-seal-requires-in-One : goal.types_at-seal-requires-in-One
 unfolding form_of entries bare leads
 types_at-seal-requires-in-One t c =
-    let b = one-bounds _ _ _ _ _ _ c.loop-left.invariant.1 _ c.open_at.ensures _ _ _ (c.in_ok-open.was ∙ ap Ok c.in-One.is) in (b.2, omega (arith, b, c.requires.0), omega (arith, b))
+    let b = one-bounds _ _ _ _ _ _ c.loop-left.invariant.1 _ c.open_at.ensures _ _ _ (c.in_ok-open.was ∙ ap Ok c.in-One.is) in (b.2, omega (arith, b), omega (arith, b))
 
 pub types_at-overflow_sub-deep : goal.types_at-overflow_sub-deep
 unfolding form_of entries bare leads
@@ -228,7 +223,7 @@ types_at-overflow_sub-deep-in-List t c =
 pub types_at-list_at-requires : goal.types_at-list_at-requires
 unfolding form_of entries bare leads
 types_at-list_at-requires t c =
-    let b = open_bounds _ _ _ _ _ _ c.loop-left.invariant.1 _ c.open_at.ensures _ (c.in_ok-open.was ∙ ap Ok c.in-List.is) refl in (omega (arith, b, c.loop-left.invariant.2, c.decreases), (c.requires.0, b.1, b.2))
+    let b = open_bounds _ _ _ _ _ _ c.loop-left.invariant.1 _ c.open_at.ensures _ (c.in_ok-open.was ∙ ap Ok c.in-List.is) refl in (omega (arith, b, c.loop-left.invariant.2, c.decreases), (b.1, b.2))
 
 pub types_at-returns-in_err-end-in-List : goal.types_at-returns-in_err-end-in-List
 unfolding form_of entries bare leads on_open ended
@@ -245,7 +240,7 @@ types_at-overflow_sub-deep-in-FnPtr t c =
 pub types_at-fn_ptr_at-requires : goal.types_at-fn_ptr_at-requires
 unfolding form_of entries bare leads
 types_at-fn_ptr_at-requires t c =
-    let b = open_bounds _ _ _ _ _ _ c.loop-left.invariant.1 _ c.open_at.ensures _ (c.in_ok-open.was ∙ ap Ok c.in-FnPtr.is) refl in (omega (arith, b, c.loop-left.invariant.2, c.decreases), (c.requires.0, b.1, b.2))
+    let b = open_bounds _ _ _ _ _ _ c.loop-left.invariant.1 _ c.open_at.ensures _ (c.in_ok-open.was ∙ ap Ok c.in-FnPtr.is) refl in (omega (arith, b, c.loop-left.invariant.2, c.decreases), (b.1, b.2))
 
 pub types_at-returns-in_err-end-in-FnPtr : goal.types_at-returns-in_err-end-in-FnPtr
 unfolding form_of entries bare leads on_open ended
@@ -262,7 +257,7 @@ types_at-overflow_sub-deep-in-Array t c =
 pub types_at-array_at-requires : goal.types_at-array_at-requires
 unfolding form_of entries bare leads
 types_at-array_at-requires t c =
-    let b = open_bounds _ _ _ _ _ _ c.loop-left.invariant.1 _ c.open_at.ensures _ (c.in_ok-open.was ∙ ap Ok c.in-Array.is) refl in (omega (arith, b, c.loop-left.invariant.2, c.decreases), (c.requires.0, b.1, b.2))
+    let b = open_bounds _ _ _ _ _ _ c.loop-left.invariant.1 _ c.open_at.ensures _ (c.in_ok-open.was ∙ ap Ok c.in-Array.is) refl in (omega (arith, b, c.loop-left.invariant.2, c.decreases), (b.1, b.2))
 
 pub types_at-returns-in_err-end-in-Array : goal.types_at-returns-in_err-end-in-Array
 unfolding form_of entries bare leads on_open ended
@@ -299,7 +294,7 @@ types_at-close-requires t c =
     let p = l.invariant.1 in
     let q = c.open_at.ensures in
     let end = c.match-open.end in
-    let i : Walked (node l.deep c.args.src.now c.args.counts l.p l.e l.m) l.m (Next end.at end.node) l.out c.match-open.out = elim c.match-open.branch [
+    let i : Walked (node l.deep c.args.src.now.bytes.now c.args.src.now.counts l.p l.e l.m) l.m (Next end.at end.node) l.out c.match-open.out = elim c.match-open.branch [
       | types_at-in-Leaf w ↦ walked_as _ _ _ _ _ _ _ w.out-is (ap (λ (x : Position). Next x.at x.node) w.end-is) (leaf-done _ _ _ _ _ _ p _ q _ _ (c.in_ok-open.was ∙ ap Ok w.in-Leaf.is) _ _ _ (seal_put _ _ _ _ _ w.seal.ensures))
       | types_at-in-List+in_ok-end-in-List w ↦ walked_to _ _ _ _ _ _ _ _ w.out-is w.end-is w.in_ok-end-in-List.was (below_node _ _ _ _ _ _ p _ q _ (c.in_ok-open.was ∙ ap Ok w.in-List.is) _ _ _ w.list_at.ensures)
       | types_at-in-FnPtr+in_ok-end-in-FnPtr w ↦ walked_to _ _ _ _ _ _ _ _ w.out-is w.end-is w.in_ok-end-in-FnPtr.was (below_node _ _ _ _ _ _ p _ q _ (c.in_ok-open.was ∙ ap Ok w.in-FnPtr.is) _ _ _ w.fn_ptr_at.ensures)
@@ -314,7 +309,7 @@ types_at-loop-left-preserved t c =
     let p = l.invariant.1 in
     let q = c.open_at.ensures in
     let end = c.match-open.end in
-    let i : Walked (node l.deep c.args.src.now c.args.counts l.p l.e l.m) l.m (Next end.at end.node) l.out c.match-open.out = elim c.match-open.branch [
+    let i : Walked (node l.deep c.args.src.now.bytes.now c.args.src.now.counts l.p l.e l.m) l.m (Next end.at end.node) l.out c.match-open.out = elim c.match-open.branch [
       | types_at-in-Leaf w ↦ walked_as _ _ _ _ _ _ _ w.out-is (ap (λ (x : Position). Next x.at x.node) w.end-is) (leaf-done _ _ _ _ _ _ p _ q _ _ (c.in_ok-open.was ∙ ap Ok w.in-Leaf.is) _ _ _ (seal_put _ _ _ _ _ w.seal.ensures))
       | types_at-in-List+in_ok-end-in-List w ↦ walked_to _ _ _ _ _ _ _ _ w.out-is w.end-is w.in_ok-end-in-List.was (below_node _ _ _ _ _ _ p _ q _ (c.in_ok-open.was ∙ ap Ok w.in-List.is) _ _ _ w.list_at.ensures)
       | types_at-in-FnPtr+in_ok-end-in-FnPtr w ↦ walked_to _ _ _ _ _ _ _ _ w.out-is w.end-is w.in_ok-end-in-FnPtr.was (below_node _ _ _ _ _ _ p _ q _ (c.in_ok-open.was ∙ ap Ok w.in-FnPtr.is) _ _ _ w.fn_ptr_at.ensures)
@@ -322,7 +317,7 @@ types_at-loop-left-preserved t c =
     ] in
     let x = pending_end _ _ _ _ _ _ (l.invariant.4 c.loop-left-test.true) _ _ i _ _ refl _ c.close.ensures in (
       c.close.auto.out ∙ walked_length _ _ _ _ _ i ∙ l.invariant.0,
-      c.requires.2,
+      c.requires.1,
       omega arith,
       omega arith,
       λ h. pending_item _ _ _ _ _ _ _ _ h (omega arith) (ends-node _ _ _ _ _ _) x,

@@ -4,7 +4,7 @@ use Rattle.walk.proofs.root_at.Goals as goal
 
 pub type_at-requires : goal.type_at-requires
 type_at-requires c =
-    (c.requires, sym c.is_type_place.ensures ∙ c.if-is_type_place.true)
+    sym c.is_type_place.ensures ∙ c.if-is_type_place.true
 
 pub returns-then-is_type_place : goal.returns-then-is_type_place
 returns-then-is_type_place c =
@@ -12,7 +12,7 @@ returns-then-is_type_place c =
 
 pub signature_at-requires : goal.signature_at-requires
 signature_at-requires c =
-    (c.requires, sym c.is_type_place.ensures ∙ c.if-is_type_place.false)
+    sym c.is_type_place.ensures ∙ c.if-is_type_place.false
 
 pub returns : goal.returns
 returns c =

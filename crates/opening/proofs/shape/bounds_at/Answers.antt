@@ -15,7 +15,7 @@ pub loop-init : goal.loop-init
 loop-init c r fin y =
     let a = c.args in
     let z : a.count - 0 ≡ a.count = omega arith in
-    subst (λ (k : ℕ). Walked (many (bound_at a.kind a.d a.src.now) k a.at a.n) a.n r a.out.now fin) z y
+    subst (λ (k : ℕ). Walked (many (bound_at a.kind a.d a.src.now.bytes.now) k a.at a.n) a.n r a.out.now fin) z y
 
 pub returns-in_err-end : goal.returns-in_err-end
 unfolding ended
@@ -28,7 +28,7 @@ pub loop-preserved : goal.loop-preserved
 unfolding ended
 loop-preserved c r fin y =
     let l = c.loop in
-    let f = bound_at c.args.kind c.args.d c.args.src.now in
+    let f = bound_at c.args.kind c.args.d c.args.src.now.bytes.now in
     let e = c.in_ok-end.end in
     let z : c.args.count - (l.counter + 1) ≡ c.args.count - l.counter - 1 = omega arith in
     l.invariant r fin

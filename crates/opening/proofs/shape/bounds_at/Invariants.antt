@@ -9,5 +9,5 @@ use Rattle.opening.proofs.shape.bounds_at.Given as goal
 -- whatever ends the rest from here ends the whole
 abbrev pub invariant-loop : goal.invariant-loop
 invariant-loop l =
-    (r : Walk) (fin : List ℕ) → Walked (many (bound_at l.kind l.d l.src) (l.count - l.counter) l.end.at l.end.node) l.end.node r l.out fin
-    → Walked (many (bound_at l.kind l.d l.src) l.count l.at l.n) l.n r l.initial.out fin
+    (r : Walk) (fin : List ℕ) → Walked (many (bound_at l.kind l.d l.src.bytes.now) (l.count - l.counter) l.end.at l.end.node) l.end.node r l.out fin
+    → Walked (many (bound_at l.kind l.d l.src.bytes.now) l.count l.at l.n) l.n r l.initial.out fin

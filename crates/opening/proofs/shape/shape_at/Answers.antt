@@ -53,7 +53,7 @@ returns-in_err-lows c =
     shaped_as _ _ _ _ (e ∙ ap Err p.2)
     (shape_good _ _ c.count_at.ensures _ _ _ _ _ _ _ _ rank
     (shape_good _ _ c.count_at-2.ensures _ _ _ _ _ _ _ _ sizes
-    (shape_then _ _ _ _ _ (lows_at a.d a.src.now a.kind _ _) (ends-many _ (ends-bound_at _ a.d a.src.now) _ _ _ c.requires.1) c.bounds_at.ensures _ _ (ap ended c.in_ok-sized.was) _ _
+    (shape_then _ _ _ _ _ (lows_at a.d a.src.now.bytes.now a.kind _ _) (ends-many _ (ends-bound_at _ a.d a.src.now.bytes.now) _ _ _ c.requires) c.bounds_at.ensures _ _ (ap ended c.in_ok-sized.was) _ _
     (shape_bad _ _ c.count_at-3.ensures _ _ _ p.0 _ p.1))))
 
 pub returns-in_err-end : goal.returns-in_err-end
@@ -67,7 +67,7 @@ returns-in_err-end c =
     shaped_as _ _ _ _ e
     (shape_good _ _ c.count_at.ensures _ _ _ _ _ _ _ _ rank
     (shape_good _ _ c.count_at-2.ensures _ _ _ _ _ _ _ _ sizes
-    (shape_then _ _ _ _ _ (lows_at a.d a.src.now a.kind _ _) (ends-many _ (ends-bound_at _ a.d a.src.now) _ _ _ c.requires.1) c.bounds_at.ensures _ _ (ap ended c.in_ok-sized.was) _ _
+    (shape_then _ _ _ _ _ (lows_at a.d a.src.now.bytes.now a.kind _ _) (ends-many _ (ends-bound_at _ a.d a.src.now.bytes.now) _ _ _ c.requires) c.bounds_at.ensures _ _ (ap ended c.in_ok-sized.was) _ _
     (shape_good _ _ c.count_at-3.ensures _ _ _ _ _ _ _ _ lows
     (shape_stop _ _ _ _ _ _ c.bounds_at-2.ensures _ (ap ended c.in_err-end.was))))))
 
@@ -92,11 +92,11 @@ returns c =
     let rank = placed_ok c.count_at.result _ c.placed.ensures c.in_ok-rank.was in
     let sizes = placed_ok c.count_at-2.result _ c.placed-2.ensures c.in_ok-sizes.was in
     let lows = placed_ok c.count_at-3.result _ c.placed-3.ensures c.in_ok-lows.was in
-    let ends = ends-many _ (ends-bound_at SIZE a.d a.src.now) _ _ _ c.requires.1 in
+    let ends = ends-many _ (ends-bound_at SIZE a.d a.src.now.bytes.now) _ _ _ c.requires in
     let few = walked_next _ _ _ _ _ _ ends (found _ _ _ _ _ _ (ap ended c.in_ok-sized.was) c.bounds_at.ensures) in
     rw c.head_of.ensures
     (shape_good _ _ c.count_at.ensures _ _ _ _ _ _ _ _ rank
     (shape_good _ _ c.count_at-2.ensures _ _ _ _ _ _ _ _ sizes
-    (shape_then _ _ _ _ _ (lows_at a.d a.src.now a.kind _ _) ends c.bounds_at.ensures _ _ (ap ended c.in_ok-sized.was) _ _
+    (shape_then _ _ _ _ _ (lows_at a.d a.src.now.bytes.now a.kind _ _) ends c.bounds_at.ensures _ _ (ap ended c.in_ok-sized.was) _ _
     (shape_good _ _ c.count_at-3.ensures _ _ _ _ _ _ _ _ lows
-    (shape_done _ _ _ _ _ _ (ends-many _ (ends-bound_at _ a.d a.src.now) _ _ _ few) c.bounds_at-2.ensures _ _ (ap ended c.in_ok-end.was))))))
+    (shape_done _ _ _ _ _ _ (ends-many _ (ends-bound_at _ a.d a.src.now.bytes.now) _ _ _ few) c.bounds_at-2.ensures _ _ (ap ended c.in_ok-end.was))))))
