@@ -1,17 +1,13 @@
 -- Tables of runs of bytes: a byte in a run and out of it, and an interval of bytes that no run cuts.
 -- Assumes nothing.
 use Prim.Native.Nat.{ℕ, suc, ◌≤◌, ◌<◌}
-use mathlib.Core.Path.{◌≡◌, refl, subst}
+use mathlib.Core.Path.{◌≡◌, refl}
 use mathlib.Core.Bool.{Bool, true, false, cond, ◌&&◌, ◌||◌}
 use mathlib.Core.List.{List, [], ◌∷◌}
 use mathlib.Core.Logic.{◌⊎◌, inl, inr, ⊎_elim}
-use native.Mathlib.Nat.{eq-or-lt_of_le}
 use native.Mathlib.Omega.{arith}
 use lib.Dec.{T, leb, ltb, leb→le, ltb→lt}
-use denote.Enum.Declared.{tag_of}
-use types.Run.{OneOf, miss}
 use borrow.Author.Tests.{leb-true, le-leb, ltb-true, ltb-false}
-use Rattle.element.specs.contracts.Form.{the_type}
 use Rattle.element.specs.declared.Place.{Place}
 use Rattle.element.specs.declared.Form.{Form}
 use Rattle.element.specs.declared.Form.TheVariants.{Refused, Leaf, Named, Variable, Wrap, Modified, Counted, Array, Instance, Callable, Generic}
@@ -63,10 +59,6 @@ same_run (run first last f ∷ es) {lo} {hi} {b} l u t =
         let k : hi ≤ suc last = leb→le _ _ p.1 in
         simp (inside first last b (omega arith) (omega arith), inside first last lo (omega arith) (omega arith))
 
--- a lower bound rises past a byte that is excluded
-pub above : {n b : ℕ} → n ≤ b → (b ≡ n → ⊥) → suc n ≤ b
-above h ne = ⊎_elim (λ e. absurd (ne (omega arith))) (λ l. l) (eq-or-lt_of_le h)
-
 pub lt_or_le : (b n : ℕ) → (b < n) ⊎ (n ≤ b)
 lt_or_le b n = go (ltb b n) refl
   where
@@ -102,21 +94,6 @@ refused-form Array e = cc
 refused-form Instance e = cc
 refused-form (Callable p) e = cc
 refused-form (Generic p) e = cc
-
--- the tags of all others
-abbrev others : List ℕ
-others = 1 ∷ 2 ∷ 3 ∷ 4 ∷ 5 ∷ 6 ∷ 7 ∷ 8 ∷ 9 ∷ 10 ∷ []
-
-pub unrefused : (f : Form) → OneOf others (tag_of the_type f) → allowed f ≡ true
-unrefused f h = go (allowed f) refl
-  where
-    go : (t : Bool) → allowed f ≡ t → t ≡ true
-    go true e = refl
-    go false e = absurd (miss others 0 tt (subst (λ (g : Form). OneOf others (tag_of the_type g)) (refused-form f e) h))
-
--- what fails a test is nothing that passes it
-pub unmet : {A X : Type 0} (test : A → Bool) {x y : A} → x ≡ y → test y ≡ false → test x ≡ true → X
-unmet test e f t = let z : ◌≡◌ {A = ℕ} 0 1 = cc in absurd (omega arith)
 
 -- where only Callable is allowed
 abbrev pub called : Form → Bool

@@ -1,5 +1,5 @@
 // The element bytes: what may follow a code byte in each place of the grammar. Each place decides the byte by one match.
-#![tactic(auto)]
+#![tactic(auto, unfolding(crate::specs::Element::form_of, crate::specs::Element::entries))]
 
 ghost use Rattle.std.specs.Prelude.{◌≡◌};
 ghost use Rattle.element.specs.Element.{allowed, bare, lookup, form_of};
@@ -58,6 +58,7 @@ pub enum Form {
 }
 
 // Bare: a type without modifiers.
+#[tactic(auto, unfolding(crate::specs::Element::bare))]
 fn bare_form(b: u8) -> Form
     ensures { result ≡ lookup bare b }
 {
@@ -75,16 +76,12 @@ fn bare_form(b: u8) -> Form
 }
 
 // The lead bytes of a method.
+#[tactic(auto, unfolding(crate::specs::Element::form_of, crate::specs::Element::entries, crate::specs::Element::leads))]
 pub fn fn_ptr_method_form(b: u8) -> Form
     ensures { result ≡ form_of Place.FnPtrMethod b }
 {
     match b {
-        0x00 => Form::Callable(Place::Param),
-        0x05 => Form::Callable(Place::Param),
-        0x20 => Form::Callable(Place::Param),
-        0x25 => Form::Callable(Place::Param),
-        0x60 => Form::Callable(Place::Param),
-        0x65 => Form::Callable(Place::Param),
+        0x00 | 0x05 | 0x20 | 0x25 | 0x60 | 0x65 => Form::Callable(Place::Param),
         _ => Form::Refused,
     }
 }
@@ -123,9 +120,8 @@ fn ret_type_form(b: u8) -> Form
     ensures { result ≡ form_of Place.RetType b }
 {
     match b {
-        0x01 => Form::Leaf,
+        0x01 | 0x16 => Form::Leaf,
         0x10 => Form::Wrap(Place::Type),
-        0x16 => Form::Leaf,
         0x1F | 0x20 => Form::Modified(Place::RetType),
         _ => bare_form(b),
     }
@@ -157,9 +153,8 @@ fn type_spec_form(b: u8) -> Form
     ensures { result ≡ form_of Place.TypeSpec b }
 {
     match b {
-        0x01 => Form::Leaf,
+        0x01 | 0x16 => Form::Leaf,
         0x11 | 0x12 => Form::Refused,
-        0x16 => Form::Leaf,
         0x1F | 0x20 => Form::Modified(Place::ModifiedSpec),
         _ => bare_form(b),
     }
@@ -169,8 +164,7 @@ fn modified_spec_form(b: u8) -> Form
     ensures { result ≡ form_of Place.ModifiedSpec b }
 {
     match b {
-        0x01 => Form::Leaf,
-        0x16 => Form::Leaf,
+        0x01 | 0x16 => Form::Leaf,
         0x1F | 0x20 => Form::Modified(Place::ModifiedSpec),
         _ => bare_form(b),
     }
@@ -198,8 +192,7 @@ fn property_sig_form(b: u8) -> Form
     ensures { result ≡ form_of Place.PropertySig b }
 {
     match b {
-        0x08 => Form::Callable(Place::Param),
-        0x28 => Form::Callable(Place::Param),
+        0x08 | 0x28 => Form::Callable(Place::Param),
         _ => Form::Refused,
     }
 }
@@ -208,14 +201,13 @@ fn method_def_sig_form(b: u8) -> Form
     ensures { result ≡ form_of Place.MethodDefSig b }
 {
     match b {
-        0x10 => Form::Generic(Place::Param),
-        0x30 => Form::Generic(Place::Param),
-        0x70 => Form::Generic(Place::Param),
+        0x10 | 0x30 | 0x70 => Form::Generic(Place::Param),
         _ => fn_ptr_method_form(b),
     }
 }
 
 // What follows the code byte `b` in a place.
+#[tactic(auto)]
 pub fn form_of(place: Place, b: u8) -> Form
     ensures { result ≡ form_of place b }
 {
@@ -237,6 +229,7 @@ pub fn form_of(place: Place, b: u8) -> Form
 }
 
 // The same, quick for the roots that are no types.
+#[tactic(auto)]
 pub fn signature_form_of(place: Place, b: u8) -> Form
     ensures { result ≡ form_of place b }
 {
@@ -250,11 +243,9 @@ pub fn signature_form_of(place: Place, b: u8) -> Form
 }
 
 // Whether a place allows the code byte `b`.
+#[tactic(auto)]
 pub fn allows(place: Place, b: u8) -> bool
     ensures { result ≡ allowed (form_of place b) }
 {
-    match form_of(place, b) {
-        Form::Refused => false,
-        _ => true,
-    }
+    !matches!(form_of(place, b), Form::Refused)
 }

@@ -5,42 +5,35 @@ ghost use Rattle.element.specs.Element.{allowed, form_of, is_type_place};
 use crate::{Form, Place};
 
 // Whether a place is one of a type.
+#[tactic(auto, unfolding(crate::specs::Element::form_of, crate::specs::Element::entries, crate::specs::Element::leads))]
 pub fn is_type_place(place: Place) -> bool
     ensures { result ≡ is_type_place place }
 {
-    match place {
-        Place::FnPtrMethod => false,
-        Place::FieldSig => false,
-        Place::LocalVarSig => false,
-        Place::PropertySig => false,
-        Place::MethodDefSig => false,
-        _ => true,
-    }
+    !matches!(
+        place,
+        Place::FnPtrMethod
+            | Place::FieldSig
+            | Place::LocalVarSig
+            | Place::PropertySig
+            | Place::MethodDefSig
+    )
 }
 
 // The place behind a modifier that stands in a place of a type.
+#[tactic(auto, unfolding(crate::specs::Element::form_of, crate::specs::Element::entries, crate::specs::Element::leads))]
 fn behind(place: Place) -> Place
     requires { is_type_place place ≡ true }
     ensures { Form.Modified result ≡ form_of place 0x1F }
 {
     match place {
-        Place::Type => Place::Type,
-        Place::Pointee => Place::Pointee,
-        Place::Param => Place::Param,
-        Place::RetType => Place::RetType,
-        Place::Local => Place::Local,
         Place::Pinned => Place::Type,
         Place::TypeSpec => Place::ModifiedSpec,
-        Place::ModifiedSpec => Place::ModifiedSpec,
-        Place::FnPtrMethod => Place::Type,
-        Place::FieldSig => Place::Type,
-        Place::LocalVarSig => Place::Type,
-        Place::PropertySig => Place::Type,
-        Place::MethodDefSig => Place::Type,
+        _ => place,
     }
 }
 
 // The form of a byte that only some places allow.
+#[tactic(auto)]
 fn where_allowed(place: Place, b: u8, form: Form) -> Form
     ensures { result ≡ cond (allowed (form_of place b)) form Form.Refused }
 {
@@ -51,24 +44,14 @@ fn where_allowed(place: Place, b: u8, form: Form) -> Form
 }
 
 // The form of CLASS and VALUETYPE, which are refused as the first byte of a TypeSpec.
+#[tactic(auto, unfolding(crate::specs::Element::form_of, crate::specs::Element::entries, crate::specs::Element::bare, crate::specs::Element::leads))]
 fn named_form(place: Place) -> Form
     requires { is_type_place place ≡ true }
     ensures { result ≡ form_of place 0x11 }
 {
     match place {
-        Place::Type => Form::Named,
-        Place::Pointee => Form::Named,
-        Place::Param => Form::Named,
-        Place::RetType => Form::Named,
-        Place::Local => Form::Named,
-        Place::Pinned => Form::Named,
         Place::TypeSpec => Form::Refused,
-        Place::ModifiedSpec => Form::Named,
-        Place::FnPtrMethod => Form::Refused,
-        Place::FieldSig => Form::Refused,
-        Place::LocalVarSig => Form::Refused,
-        Place::PropertySig => Form::Refused,
-        Place::MethodDefSig => Form::Refused,
+        _ => Form::Named,
     }
 }
 
