@@ -1,6 +1,6 @@
 // The jobs that are timed.
 use crate::graphs::{Graph, Random, type_of};
-use number::checked::Checked;
+use number::checked::checked_at;
 use number::token::row_counts;
 use register::{MAX_SIZE, Register, WORDS};
 
@@ -14,13 +14,11 @@ fn sum_of(s: &[u8]) -> u64 {
     let mut at = 0;
     // Kept: where a number ends is known only when it has been read.
     while at < s.len() {
-        match number::checked::checked_at(s, at) {
-            Checked::Good { value, next } => {
-                sum = sum.wrapping_add(u64::from(value));
-                at = next;
-            }
-            Checked::Bad { refusal: _ } => return sum,
-        }
+        let Ok(number) = checked_at(s, at) else {
+            return sum;
+        };
+        sum = sum.wrapping_add(u64::from(number.value));
+        at = number.next;
     }
     sum
 }
