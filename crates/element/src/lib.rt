@@ -228,7 +228,7 @@ pub fn form_of(place: Place, b: u8) -> Form
     }
 }
 
-// The same, quick for the roots that are no types.
+// The same, quick for the roots that are no types. Kept: their arms stand here again, so that one match decides.
 #[tactic(auto)]
 pub fn signature_form_of(place: Place, b: u8) -> Form
     ensures { result ≡ form_of place b }

@@ -55,8 +55,8 @@ fn named_form(place: Place) -> Form
     }
 }
 
-// What follows the code byte `b` in a place of a type: what Bare allows means the same in all of them. Bare's arms stand here again, since one match
-// is one jump; with a call of Bare's own function behind it the reader is slower.
+// What follows the code byte `b` in a place of a type: what Bare allows means the same in all of them.
+// Kept: Bare's arms stand here again, since one match is one jump; with a call of Bare's own function behind it the reader is slower.
 pub fn type_form_of(place: Place, b: u8) -> Form
     requires { is_type_place place ≡ true }
     ensures { result ≡ form_of place b }
