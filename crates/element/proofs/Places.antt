@@ -1,7 +1,7 @@
 -- Rules over the places: what the checker computes for all of them holds in each.
 -- Assumes nothing.
-use Prim.Native.Nat.{ℕ}
-use mathlib.Core.Path.{◌≡◌, refl, sym}
+use Prim.Native.Nat.{ℕ, ◌≤◌, ◌<◌}
+use mathlib.Core.Path.{◌≡◌, refl, sym, ◌∙◌}
 use mathlib.Core.Bool.{Bool, true, false, cond, ◌||◌}
 use mathlib.Core.List.{List, [], ◌∷◌}
 use lib.Dec.{eqb}
@@ -10,8 +10,8 @@ use Rattle.element.specs.contracts.Place.{the_type}
 use Rattle.element.specs.declared.Place.{Place}
 use Rattle.element.specs.declared.Form.{Form}
 use Rattle.element.specs.declared.Form.TheVariants.{Refused, Callable}
-use Rattle.element.specs.Element.{by_sort, nowhere, lookup, bare, leads, entries, form_of, places, is_type_place}
-use Rattle.element.proofs.Runs.{all_forms, lookup-passes, called, uncalled_form}
+use Rattle.element.specs.Element.{by_sort, nowhere, allowed, lookup, bare, leads, entries, form_of, places, is_type_place}
+use Rattle.element.proofs.Runs.{uncut, same_run, all_forms, lookup-passes, called, uncalled_form}
 
 -- a value for each place
 abbrev pub each : {A : Type 0} → (Place → A) → List Place → List A
@@ -43,6 +43,27 @@ of_types a f p = cond (is_type_place p) (f p) a
 
 pub at_type : {A : Type 0} (a : A) (f g : Place → A) → each (of_types a f) places ≡ each (of_types a g) places → (p : Place) → is_type_place p ≡ true → f p ≡ g p
 at_type a f g e p t = rw t at (at_place (of_types a f) (of_types a g) e p)
+
+module _ (p : Place) (t : is_type_place p ≡ true) where
+  -- the bytes from lo up to, not including, hi have the form of the first, if no place's entries cut them
+  pub type_same : (lo hi : ℕ) → each (of_types true (λ q. uncut (entries q) lo hi)) places ≡ each (of_types true (λ q. true)) places → {b : ℕ} → lo ≤ b → b < hi → form_of p lo ≡ form_of p b
+  unfolding form_of
+  type_same lo hi e l u =
+      let x : uncut (entries p) lo hi ≡ true = at_type true (λ q. uncut (entries q) lo hi) (λ q. true) e p t in
+      sym (same_run (entries p) l u (rw x tt))
+
+  -- .. and that is f in all of them
+  pub type_run : (lo hi : ℕ) (f : Form) → each (of_types f (λ q. form_of q lo)) places ≡ each (of_types f (λ q. f)) places
+      → each (of_types true (λ q. uncut (entries q) lo hi)) places ≡ each (of_types true (λ q. true)) places → {b : ℕ} → lo ≤ b → b < hi → f ≡ form_of p b
+  type_run lo hi f d e l u = sym (at_type f (λ q. form_of q lo) (λ q. f) d p t) ∙ type_same lo hi e l u
+
+  pub type_byte : (k : ℕ) (f : Form) → each (of_types f (λ q. form_of q k)) places ≡ each (of_types f (λ q. f)) places → {b : ℕ} → b ≡ k → f ≡ form_of p b
+  type_byte k f e h = rw h (sym (at_type f (λ q. form_of q k) (λ q. f) e p t))
+
+  -- a byte that only some of them allow
+  pub type_some : (k : ℕ) (f : Form) → each (of_types f (λ q. cond (allowed (form_of q k)) f Refused)) places ≡ each (of_types f (λ q. form_of q k)) places
+      → {b : ℕ} → b ≡ k → cond (allowed (form_of p b)) f Refused ≡ form_of p b
+  type_some k f e h = rw h (at_type f (λ q. cond (allowed (form_of q k)) f Refused) (λ q. form_of q k) e p t)
 
 -- ---- forms by place
 

@@ -1,5 +1,5 @@
 // The element bytes: what may follow a code byte in each place of the grammar. Each place decides the byte by one match.
-#![tactic(auto, unfolding(crate::specs::Element::form_of, crate::specs::Element::entries, crate::specs::Element::bare, crate::specs::Element::leads))]
+#![tactic(auto, unfolding(crate::specs::Element::form_of, crate::specs::Element::entries))]
 
 ghost use Rattle.std.specs.Prelude.{◌≡◌};
 ghost use Rattle.element.specs.Element.{allowed, bare, lookup, form_of};
@@ -58,6 +58,7 @@ pub enum Form {
 }
 
 // Bare: a type without modifiers.
+#[tactic(auto, unfolding(crate::specs::Element::bare))]
 fn bare_form(b: u8) -> Form
     ensures { result ≡ lookup bare b }
 {
@@ -75,6 +76,7 @@ fn bare_form(b: u8) -> Form
 }
 
 // The lead bytes of a method.
+#[tactic(auto, unfolding(crate::specs::Element::form_of, crate::specs::Element::entries, crate::specs::Element::leads))]
 pub fn fn_ptr_method_form(b: u8) -> Form
     ensures { result ≡ form_of Place.FnPtrMethod b }
 {
@@ -226,7 +228,7 @@ pub fn form_of(place: Place, b: u8) -> Form
     }
 }
 
-// The same, quick for the roots that are no types.
+// The same, quick for the roots that are no types. Kept: their arms stand here again, so that one match decides.
 #[tactic(auto)]
 pub fn signature_form_of(place: Place, b: u8) -> Form
     ensures { result ≡ form_of place b }
@@ -245,5 +247,5 @@ pub fn signature_form_of(place: Place, b: u8) -> Form
 pub fn allows(place: Place, b: u8) -> bool
     ensures { result ≡ allowed (form_of place b) }
 {
-    form_of(place, b) != Form::Refused
+    !matches!(form_of(place, b), Form::Refused)
 }

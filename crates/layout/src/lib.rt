@@ -27,7 +27,7 @@ enum Section {
 const SECTIONS: [Section; 3] = [Section::Counts, Section::Blobs, Section::Acks];
 
 // The offsets at which the items of each section begin.
-#[derive(Clone, Copy, Debug, PartialEq, Eq)]
+#[derive(Clone, Copy, Debug, Default, PartialEq, Eq)]
 pub struct Starts {
     pub counts: usize,
     pub blobs: usize,
@@ -35,7 +35,7 @@ pub struct Starts {
 }
 
 // Where the items begin, how many blobs there are, which is the number of rows, and how many acknowledgements.
-#[derive(Clone, Copy, Debug, PartialEq, Eq)]
+#[derive(Clone, Copy, Debug, Default, PartialEq, Eq)]
 pub struct Layout {
     pub starts: Starts,
     pub rows: u32,
@@ -86,20 +86,12 @@ fn note(layout: Layout, section: Section, count: Number) -> Layout
     l
 }
 
-// Reads the sections in their order; the label leaves both loops with the place of the first fault.
+// Reads the sections in their order. Kept: two loops in one function, since a label leaves both with the place of the first fault
+// (docs/DECISIONS.md).
 fn sections_of(s: &[u8]) -> Result<Layout, usize>
     ensures { result ≡ sections_of s.now }
 {
-    let starts = Starts {
-        counts: 0,
-        blobs: 0,
-        acks: 0,
-    };
-    let mut layout = Layout {
-        starts,
-        rows: 0,
-        acknowledged: 0,
-    };
+    let mut layout = Layout::default();
     let mut at = 0;
     let place = 'sheet: {
         for section in SECTIONS {

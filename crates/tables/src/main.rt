@@ -50,7 +50,7 @@ fn write(rt: &impl Print, kind: u32, table: &[u32], out: &mut [u8]) -> io::Resul
 fn run(rt: &impl Print, input: Input<'_>) -> io::Result<()> {
     let mut table = [0u32; 120];
     let mut out = [KEPT; 64];
-    reader::read(0, usual_counts(), input.blob, &mut table);
+    let _ = reader::read(0, usual_counts(), input.blob, &mut table);
     if let Some((index, value)) = input.changed {
         if let Some(number) = table.get_mut(index) {
             *number = value;
