@@ -102,7 +102,11 @@ fn read_both(
 ) -> io::Result<usize> {
     let second = record_of(case, table, 0).answer;
     let first = reader::read(case.kind, case.counts, case.blob, flat);
-    print!(rt; "{}, read {}", Outcome(second.into()), Outcome(first.into()))?;
+    print!(rt;
+        "{}, read {}",
+        Outcome(second.into()),
+        Outcome(first.into())
+    )?;
     println!(rt; ", the tables agree to {}", agree(table, flat))?;
     Ok(first.unwrap_or(0))
 }

@@ -38,11 +38,11 @@ const METHOD_VARIABLE: Input<'static> = Input {
 // A table written where `out` is lent.
 fn write(rt: &impl Print, kind: u32, table: &[u32], out: &mut [u8]) -> io::Result<()> {
     let written = writer::write(kind, usual_counts(), table, out);
-    print!(rt; "{}", Outcome(written))?;
-    if written.code == 0 {
-        if let Some(bytes) = out.get(..written.place) {
-            print!(rt; "{}", Bytes(bytes))?;
-        }
+    print!(rt; "{}", Outcome(written.into()))?;
+    if let Ok(len) = written
+        && let Some(bytes) = out.get(..len)
+    {
+        print!(rt; "{}", Bytes(bytes))?;
     }
     println!(rt)
 }

@@ -44,7 +44,7 @@ fn write_back(rt: &impl Print, table: &[u32], case: Case<'_>) -> io::Result<()> 
     } else {
         "another"
     };
-    println!(rt; " written {}, {what}", Outcome(written))
+    println!(rt; " written {}, {what}", Outcome(written.into()))
 }
 
 // A blob judged, and read into the table that is lent.
