@@ -8,7 +8,7 @@ ghost use Rattle.opening.specs.Open.{head_of};
 
 use answer::refusal::{Fault, Refusal};
 use element::Place;
-use grammar::MAX_NODES;
+use grammar::{MAX_NODES, Position};
 use number::Number;
 
 pub mod shape;
@@ -56,9 +56,10 @@ fn crowded(place: Place, byte: u8, refusal: Refusal) -> Refusal
 }
 
 // The code byte of a node, for which d levels are left, allowed or not. The room is looked at before the byte, for speed: both tests are rare.
-fn code_at(src: &[u8], place: Place, at: usize, n: usize, d: usize) -> Result<u8, Fault>
-    ensures { result ≡ code_at d src.now place at n }
+fn code_at(src: &[u8], place: Place, here: Position, d: usize) -> Result<u8, Fault>
+    ensures { result ≡ code_at d src.now place here.at here.node }
 {
+    let at = here.at;
     if src.len() <= at {
         return Err(Refusal::BytesEnd.at(at));
     }
@@ -66,7 +67,7 @@ fn code_at(src: &[u8], place: Place, at: usize, n: usize, d: usize) -> Result<u8
     if d == 0 {
         return Err(crowded(place, byte, Refusal::TooDeep).at(at));
     }
-    if MAX_NODES <= n {
+    if MAX_NODES <= here.node {
         return Err(crowded(place, byte, Refusal::TooManyNodes).at(at));
     }
     Ok(byte)

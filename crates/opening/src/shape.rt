@@ -28,22 +28,22 @@ fn bound_of(
     d: usize,
     kind: u32,
     number: Number,
-    at: usize,
-    n: usize,
+    here: Position,
 ) -> Result<Position, Fault>
-    requires { at ≤ max_bytes }
-    ensures { Walked (bound kind d (found number.value number.next) at n) n (ended result) out.old out.new }
+    requires { here.at ≤ max_bytes }
+    ensures { Walked (bound kind d (found number.value number.next) here.at here.node) here.node (ended result) out.old out.new }
 {
     if d == 0 {
-        return Err(Refusal::TooDeep.at(at));
+        return Err(Refusal::TooDeep.at(here.at));
     }
-    if MAX_NODES <= n {
-        return Err(Refusal::TooManyNodes.at(at));
+    if MAX_NODES <= here.node {
+        return Err(Refusal::TooManyNodes.at(here.at));
     }
-    seal(out, n, head_of(kind, number.value, 0, 0), at, n + 1);
+    let after = here.node + 1;
+    seal(out, head_of(kind, number.value, 0, 0), here, after);
     Ok(Position {
         at: number.next,
-        node: n + 1,
+        node: after,
     })
 }
 
@@ -53,13 +53,12 @@ fn bound_at(
     d: usize,
     src: &Source,
     kind: u32,
-    at: usize,
-    n: usize,
+    here: Position,
 ) -> Result<Position, Fault>
-    ensures { Walked (bound_at kind d src.now.bytes.now at n) n (ended result) out.old out.new }
+    ensures { Walked (bound_at kind d src.now.bytes.now here.at here.node) here.node (ended result) out.old out.new }
 {
-    let number = placed(checked_at(src.bytes, at), at)?;
-    bound_of(out, d, kind, number, at, n)
+    let number = placed(checked_at(src.bytes, here.at), here.at)?;
+    bound_of(out, d, kind, number, here)
 }
 
 // `count` such nodes, one after the other.
@@ -69,14 +68,13 @@ fn bounds_at(
     src: &Source,
     kind: u32,
     count: u32,
-    at: usize,
-    n: usize,
+    from: Position,
 ) -> Result<Position, Fault>
-    ensures { Walked (many (bound_at kind d src.now.bytes.now) count at n) n (ended result) out.old out.new }
+    ensures { Walked (many (bound_at kind d src.now.bytes.now) count from.at from.node) from.node (ended result) out.old out.new }
 {
-    let mut end = Position { at, node: n };
+    let mut end = from;
     for _ in 0..count {
-        end = bound_at(out, d, src, kind, end.at, end.node)?;
+        end = bound_at(out, d, src, kind, end)?;
     }
     Ok(end)
 }
@@ -87,17 +85,24 @@ pub fn shape_at(
     d: usize,
     src: &Source,
     kind: u32,
-    at: usize,
-    n: usize,
+    from: Position,
 ) -> Result<Shape, Fault>
-    requires { n ≤ max_nodes }
-    ensures { Shaped (shape_at d src.now.bytes.now kind at n) n result out.old out.new }
+    requires { from.node ≤ max_nodes }
+    ensures { Shaped (shape_at d src.now.bytes.now kind from.at from.node) from.node result out.old out.new }
 {
-    let rank = placed(count_at(src.bytes, at, 1, MAX_RANK), at)?;
+    let rank = placed(count_at(src.bytes, from.at, 1, MAX_RANK), from.at)?;
     let sizes = placed(count_at(src.bytes, rank.next, 0, rank.value), rank.next)?;
-    let sized = bounds_at(out, d, src, SIZE, sizes.value, sizes.next, n)?;
+    let first = Position {
+        at: sizes.next,
+        node: from.node,
+    };
+    let sized = bounds_at(out, d, src, SIZE, sizes.value, first)?;
     let lows = placed(count_at(src.bytes, sized.at, 0, rank.value), sized.at)?;
-    let end = bounds_at(out, d, src, LOW, lows.value, lows.next, sized.node)?;
+    let first = Position {
+        at: lows.next,
+        node: sized.node,
+    };
+    let end = bounds_at(out, d, src, LOW, lows.value, first)?;
     let children = 1 + sizes.value + lows.value;
     Ok(Shape {
         head: head_of(kind, rank.value, sizes.value, children),

@@ -6,7 +6,7 @@ ghost use Rattle.opening.specs.Lead.{lead_of, counted_of, call_at, generic_at, l
 use crate::placed;
 use answer::refusal::{Fault, Refusal};
 use element::{Form, Place};
-use grammar::METHOD;
+use grammar::{METHOD, Position};
 use number::MAX_NUMBER;
 use number::checked::{checked_at, count_at};
 
@@ -85,20 +85,21 @@ fn lead_form(src: &[u8], form: Form, kind: u32, byte: u8, at: usize) -> Result<L
 }
 
 // A signature up to its types.
-pub fn lead_at(src: &[u8], place: Place, at: usize, n: usize, d: usize) -> Result<Lead, Fault>
-    ensures { result ≡ lead_at d src.now place at n }
+pub fn lead_at(src: &[u8], place: Place, here: Position, d: usize) -> Result<Lead, Fault>
+    ensures { result ≡ lead_at d src.now place here.at here.node }
 {
-    let byte = crate::code_at(src, place, at, n, d)?;
+    let byte = crate::code_at(src, place, here, d)?;
     let form = element::signature_form_of(place, byte);
     let kind = grammar::kind_of(place, byte);
-    lead_form(src, form, kind, byte, at)
+    lead_form(src, form, kind, byte, here.at)
 }
 
 // The method below a FNPTR up to its types.
-pub fn fn_ptr_lead_at(src: &[u8], at: usize, n: usize, d: usize) -> Result<Lead, Fault>
-    ensures { result ≡ lead_at d src.now Place.FnPtrMethod at n }
+pub fn fn_ptr_lead_at(src: &[u8], here: Position, d: usize) -> Result<Lead, Fault>
+    ensures { result ≡ lead_at d src.now Place.FnPtrMethod here.at here.node }
 {
-    let byte = crate::code_at(src, Place::FnPtrMethod, at, n, d)?;
+    let at = here.at;
+    let byte = crate::code_at(src, Place::FnPtrMethod, here, d)?;
     match element::fn_ptr_method_form(byte) {
         Form::Callable(params) => call_at(src, params, METHOD, 0, byte, at + 1),
         _ => Err(Refusal::ByteNotAllowed.at(at)),

@@ -5,7 +5,7 @@ ghost use Rattle.opening.specs.Means.{record_of};
 ghost use Rattle.opening.specs.Table.{put_of, put_after, close_of};
 
 use crate::Head;
-use grammar::Node;
+use grammar::{Node, Position};
 
 fn size32(x: usize) -> u32
     requires { x ≤ max_bytes }
@@ -31,11 +31,11 @@ fn put(out: &mut [u32], n: usize, rec: Node)
 }
 
 // Puts the record of a node whose children are read, `after` the index after them.
-pub fn seal(out: &mut [u32], n: usize, head: Head, at: usize, after: usize)
-    requires { (n < max_nodes) × (at ≤ max_bytes) × (after ≤ max_nodes) }
-    ensures { out.new ≡ put_of out.old n (record_of head at after) }
+pub fn seal(out: &mut [u32], head: Head, here: Position, after: usize)
+    requires { (here.node < max_nodes) × (here.at ≤ max_bytes) × (after ≤ max_nodes) }
+    ensures { out.new ≡ put_of out.old here.node (record_of head here.at after) }
 {
-    let start = size32(at);
+    let start = size32(here.at);
     let end = size32(after);
     let record = Node {
         kind: head.kind,
@@ -45,7 +45,7 @@ pub fn seal(out: &mut [u32], n: usize, head: Head, at: usize, after: usize)
         at: start,
         after: end,
     };
-    put(out, n, record);
+    put(out, here.node, record);
 }
 
 // Stores the index after a node's subtree in its record, where it fits.

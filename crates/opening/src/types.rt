@@ -7,6 +7,7 @@ use crate::{Head, head_of, placed};
 use answer::refusal::{Fault, Refusal};
 use element::types::{is_type_place, type_form_of};
 use element::{Form, Place};
+use grammar::Position;
 use number::checked::{checked_at, count_at};
 use number::token::{Counts, MOD_TAGS, TYPE_TAGS, token_at};
 use number::{MAX_NUMBER, Number};
@@ -151,14 +152,13 @@ pub fn open_at(
     src: &[u8],
     counts: Counts,
     place: Place,
-    at: usize,
-    n: usize,
+    here: Position,
     d: usize,
 ) -> Result<Open, Fault>
     requires { is_type_place place ≡ true }
-    ensures { result ≡ open_at d counts src.now place at n }
+    ensures { result ≡ open_at d counts src.now place here.at here.node }
 {
-    let byte = crate::code_at(src, place, at, n, d)?;
+    let byte = crate::code_at(src, place, here, d)?;
     let form = type_form_of(place, byte);
-    head_at(src, counts, form, byte, at)
+    head_at(src, counts, form, byte, here.at)
 }

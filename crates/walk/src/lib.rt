@@ -25,6 +25,9 @@ use opening::table::{close, seal};
 use opening::types::{Open, open_at};
 use opening::{Head, head_of};
 
+// Where a walk starts.
+const START: Position = Position { at: 0, node: 0 };
+
 // Types one after the other: where the walk goes on, and how many they are.
 #[derive(Clone, Copy, Debug, PartialEq, Eq)]
 pub struct Series {
@@ -39,13 +42,12 @@ fn type_at(
     d: usize,
     src: &Source,
     place: Place,
-    at: usize,
-    n: usize,
+    here: Position,
 ) -> Result<Position, Fault>
     requires { is_type_place place ≡ true }
-    ensures { Walked (node d src.now.bytes.now src.now.counts place at n) n (ended result) out.old out.new }
+    ensures { Walked (node d src.now.bytes.now src.now.counts place here.at here.node) here.node (ended result) out.old out.new }
 {
-    let types = types_at(out, d, src, place, place, 1, at, n)?;
+    let types = types_at(out, d, src, place, place, 1, here)?;
     Ok(types.end)
 }
 
@@ -59,50 +61,51 @@ fn types_at(
     place: Place,
     then: Place,
     count: u32,
-    at: usize,
-    n: usize,
+    from: Position,
 ) -> Result<Series, Fault>
     requires { (is_type_place place ≡ true) × (is_type_place then ≡ true) }
-    ensures { WalkedSeries (series (node d src.now.bytes.now src.now.counts place) (node d src.now.bytes.now src.now.counts then) count at n) count n result out.old out.new }
+    ensures { WalkedSeries (series (node d src.now.bytes.now src.now.counts place) (node d src.now.bytes.now src.now.counts then) count from.at from.node) count from.node result out.old out.new }
 {
     let bytes = src.bytes;
     let counts = src.counts;
     let mut left = count;
-    let mut e = at;
-    let mut m = n;
+    let mut here = from;
     let mut p = place;
     let mut deep = d;
     while 0 < left {
-        let open = open_at(bytes, counts, p, e, m, deep)?;
+        let open = open_at(bytes, counts, p, here, deep)?;
         let end = match open {
             Open::Leaf { head, next } => {
-                seal(out, m, head, e, m + 1);
+                let after = here.node + 1;
+                seal(out, head, here, after);
                 Position {
                     at: next,
-                    node: m + 1,
+                    node: after,
                 }
             }
             Open::One { head, child, next } => {
-                seal(out, m, head, e, m + 1);
-                e = next;
-                m += 1;
+                let after = here.node + 1;
+                seal(out, head, here, after);
+                here = Position {
+                    at: next,
+                    node: after,
+                };
                 p = child;
                 deep -= 1;
                 continue;
             }
-            Open::List { head, next } => list_at(out, deep - 1, src, head, next, e, m)?,
-            Open::FnPtr { head, next } => { fn_ptr_at(out, deep - 1, src, head, next, e, m)? }
-            Open::Array { kind } => array_at(out, deep - 1, src, kind, e, m)?,
+            Open::List { head, next } => list_at(out, deep - 1, src, head, next, here)?,
+            Open::FnPtr { head, next } => fn_ptr_at(out, deep - 1, src, head, next, here)?,
+            Open::Array { kind } => array_at(out, deep - 1, src, kind, here)?,
         };
-        close(out, m, d - deep, end.node);
-        e = end.at;
-        m = end.node;
+        close(out, here.node, d - deep, end.node);
+        here = end;
         p = then;
         deep = d;
         left -= 1;
     }
     Ok(Series {
-        end: Position { at: e, node: m },
+        end: here,
         items: count - left,
     })
 }
@@ -115,17 +118,20 @@ fn list_at(
     src: &Source,
     head: Head,
     next: usize,
-    at: usize,
-    n: usize,
+    here: Position,
 ) -> Result<Position, Fault>
-    requires { (at < length src.now.bytes.now) × (n < max_nodes) }
-    ensures { Walked (sealed (many (node d src.now.bytes.now src.now.counts Place.Type) head.children next (n + 1)) head at) n (ended result) out.old out.new }
+    requires { (here.at < length src.now.bytes.now) × (here.node < max_nodes) }
+    ensures { Walked (sealed (many (node d src.now.bytes.now src.now.counts Place.Type) head.children next (here.node + 1)) head here.at) here.node (ended result) out.old out.new }
 {
     let k = head.children;
     let place = Place::Type;
-    let types = types_at(out, d, src, place, place, k, next, n + 1)?;
+    let first = Position {
+        at: next,
+        node: here.node + 1,
+    };
+    let types = types_at(out, d, src, place, place, k, first)?;
     let end = types.end;
-    seal(out, n, head, at, end.node);
+    seal(out, head, here, end.node);
     Ok(end)
 }
 
@@ -137,30 +143,27 @@ fn fn_ptr_at(
     src: &Source,
     head: Head,
     next: usize,
-    at: usize,
-    n: usize,
+    here: Position,
 ) -> Result<Position, Fault>
-    requires { (at < length src.now.bytes.now) × (n < max_nodes) }
-    ensures { Walked (sealed (node d src.now.bytes.now src.now.counts Place.FnPtrMethod next (n + 1)) head at) n (ended result) out.old out.new }
+    requires { (here.at < length src.now.bytes.now) × (here.node < max_nodes) }
+    ensures { Walked (sealed (node d src.now.bytes.now src.now.counts Place.FnPtrMethod next (here.node + 1)) head here.at) here.node (ended result) out.old out.new }
 {
-    let end = method_at(out, d, src, next, n + 1)?;
-    seal(out, n, head, at, end.node);
+    let method = Position {
+        at: next,
+        node: here.node + 1,
+    };
+    let end = method_at(out, d, src, method)?;
+    seal(out, head, here, end.node);
     Ok(end)
 }
 
 // The method below a FNPTR: its return type and its parameters are types again.
 #[cycle(array_at_fn_ptr_at_list_at_method_at_signature_types_at_type_at_types_at)]
-fn method_at(
-    out: &mut [u32],
-    d: usize,
-    src: &Source,
-    at: usize,
-    n: usize,
-) -> Result<Position, Fault>
-    ensures { Walked (node d src.now.bytes.now src.now.counts Place.FnPtrMethod at n) n (ended result) out.old out.new }
+fn method_at(out: &mut [u32], d: usize, src: &Source, here: Position) -> Result<Position, Fault>
+    ensures { Walked (node d src.now.bytes.now src.now.counts Place.FnPtrMethod here.at here.node) here.node (ended result) out.old out.new }
 {
-    let lead = fn_ptr_lead_at(src.bytes, at, n, d)?;
-    signature_types_at(out, d - 1, src, lead, at, n)
+    let lead = fn_ptr_lead_at(src.bytes, here, d)?;
+    signature_types_at(out, d - 1, src, lead, here)
 }
 
 // A signature from its types on, which have d levels left. Its record says how many were read. It becomes part of its two callers, so that each reads its
@@ -172,20 +175,23 @@ fn signature_types_at(
     d: usize,
     src: &Source,
     lead: Lead,
-    at: usize,
-    n: usize,
+    here: Position,
 ) -> Result<Position, Fault>
-    requires read { (at < length src.now.bytes.now) × (n < max_nodes) }
+    requires read { (here.at < length src.now.bytes.now) × (here.node < max_nodes) }
     requires places { (is_type_place lead.first ≡ true) × (is_type_place lead.rest ≡ true) }
-    ensures { Walked (signature_of (node d src.now.bytes.now) src.now.counts lead at n) n (ended result) out.old out.new }
+    ensures { Walked (signature_of (node d src.now.bytes.now) src.now.counts lead here.at here.node) here.node (ended result) out.old out.new }
 {
     let first = lead.first;
     let rest = lead.rest;
     let k = lead.count;
-    let types = types_at(out, d, src, first, rest, k, lead.next, n + 1)?;
+    let start = Position {
+        at: lead.next,
+        node: here.node + 1,
+    };
+    let types = types_at(out, d, src, first, rest, k, start)?;
     let end = types.end;
     let head = head_of(lead.kind, lead.a, lead.b, types.items);
-    seal(out, n, head, at, end.node);
+    seal(out, head, here, end.node);
     Ok(end)
 }
 
@@ -196,16 +202,19 @@ fn array_at(
     d: usize,
     src: &Source,
     kind: u32,
-    at: usize,
-    n: usize,
+    here: Position,
 ) -> Result<Position, Fault>
-    requires { (at < length src.now.bytes.now) × (n < max_nodes) }
-    ensures { Walked (array (node d src.now.bytes.now) d src.now.bytes.now src.now.counts kind at n) n (ended result) out.old out.new }
+    requires { (here.at < length src.now.bytes.now) × (here.node < max_nodes) }
+    ensures { Walked (array (node d src.now.bytes.now) d src.now.bytes.now src.now.counts kind here.at here.node) here.node (ended result) out.old out.new }
 {
-    let typed = type_at(out, d, src, Place::Type, at + 1, n + 1)?;
-    let shape = shape_at(out, d, src, kind, typed.at, typed.node)?;
+    let first = Position {
+        at: here.at + 1,
+        node: here.node + 1,
+    };
+    let typed = type_at(out, d, src, Place::Type, first)?;
+    let shape = shape_at(out, d, src, kind, typed)?;
     let end = shape.end;
-    seal(out, n, shape.head, at, end.node);
+    seal(out, shape.head, here, end.node);
     Ok(end)
 }
 
@@ -214,8 +223,8 @@ fn signature_at(out: &mut [u32], src: &Source, place: Place) -> Result<Position,
     requires { is_type_place place ≡ false }
     ensures { Walked (node max_depth src.now.bytes.now src.now.counts place 0 0) 0 (ended result) out.old out.new }
 {
-    let lead = lead_at(src.bytes, place, 0, 0, MAX_DEPTH)?;
-    signature_types_at(out, MAX_DEPTH - 1, src, lead, 0, 0)
+    let lead = lead_at(src.bytes, place, START, MAX_DEPTH)?;
+    signature_types_at(out, MAX_DEPTH - 1, src, lead, START)
 }
 
 // The root of a kind.
@@ -226,7 +235,7 @@ pub fn root_at(out: &mut [u32], kind: u32, counts: Counts, src: &[u8]) -> Result
     let source = Source { bytes: src, counts };
     let place = grammar::root_of(kind);
     if element::types::is_type_place(place) {
-        return type_at(out, MAX_DEPTH, &source, place, 0, 0);
+        return type_at(out, MAX_DEPTH, &source, place, START);
     }
     signature_at(out, &source, place)
 }

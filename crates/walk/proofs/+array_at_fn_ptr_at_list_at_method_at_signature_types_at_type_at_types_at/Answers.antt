@@ -58,7 +58,7 @@ fn_ptr_at-returns-in_err-end t c =
 pub fn_ptr_at-seal-requires : goal.fn_ptr_at-seal-requires
 unfolding form_of entries bare leads ended
 fn_ptr_at-seal-requires t c =
-    (c.requires.1, omega arith, below-few _ _ c.args.head c.args.at _ _ _ c.method_at.ensures _ _ (ap ended c.in_ok-end.was) (ends-node _ _ _ _ _ _))
+    (c.requires.1, omega arith, below-few _ _ c.args.head c.args.here.at _ _ _ c.method_at.ensures _ _ (ap ended c.in_ok-end.was) (ends-node _ _ _ _ _ _))
 
 pub fn_ptr_at-returns : goal.fn_ptr_at-returns
 unfolding form_of entries bare leads ended
@@ -79,7 +79,7 @@ list_at-returns-in_err-types t c =
 pub list_at-seal-requires : goal.list_at-seal-requires
 unfolding form_of entries bare leads end_of
 list_at-seal-requires t c =
-    (c.requires.1, omega arith, below-few _ _ c.args.head c.args.at _ _ _ (listed _ _ _ _ _ _ _ c.types_at.ensures) _ _ (ap end_of c.in_ok-types.was) (ends-many _ (ends-node _ _ _ _) _ _ _ (omega (arith, c.requires.1))))
+    (c.requires.1, omega arith, below-few _ _ c.args.head c.args.here.at _ _ _ (listed _ _ _ _ _ _ _ c.types_at.ensures) _ _ (ap end_of c.in_ok-types.was) (ends-many _ (ends-node _ _ _ _) _ _ _ (omega (arith, c.requires.1))))
 
 pub list_at-returns : goal.list_at-returns
 unfolding form_of entries bare leads ended end_of
@@ -121,7 +121,7 @@ signature_types_at-returns-in_err-types t c =
 pub signature_types_at-seal-requires : goal.signature_types_at-seal-requires
 unfolding form_of entries bare leads end_of
 signature_types_at-seal-requires t c =
-    (c.requires.read.1, omega arith, below-few _ _ c.head_of-head.result c.args.at _ _ _ c.types_at.ensures.walked _ _ (ap end_of c.in_ok-types.was) (ends-series _ _ (ends-node _ _ _ _) (ends-node _ _ _ _) _ _ _ (omega (arith, c.requires))))
+    (c.requires.read.1, omega arith, below-few _ _ c.head_of-head.result c.args.here.at _ _ _ c.types_at.ensures.walked _ _ (ap end_of c.in_ok-types.was) (ends-series _ _ (ends-node _ _ _ _) (ends-node _ _ _ _) _ _ _ (omega (arith, c.requires))))
 
 pub signature_types_at-returns : goal.signature_types_at-returns
 unfolding form_of entries bare leads ended end_of
@@ -161,14 +161,9 @@ types_at-returns-in_err-open t c =
     let i = type_stop _ _ _ _ _ _ c.loop-left.invariant.1 _ c.open_at.ensures _ c.loop-left.out c.in_err-open.was in
     series-as _ _ _ _ _ _ _ e (series-stopped _ _ _ _ _ _ ((c.loop-left.invariant.4 c.loop-left-test.true).stops _ _ i _ _ refl))
 
-pub types_at-overflow_add-m : goal.types_at-overflow_add-m
+pub types_at-overflow_add-after : goal.types_at-overflow_add-after
 unfolding form_of entries bare leads
-types_at-overflow_add-m t c =
-    omega (arith, open_bounds _ _ _ _ _ _ c.loop-left.invariant.1 _ c.open_at.ensures _ (c.in_ok-open.was ∙ ap Ok c.in-Leaf.is) refl)
-
-pub types_at-overflow_add-end : goal.types_at-overflow_add-end
-unfolding form_of entries bare leads
-types_at-overflow_add-end t c =
+types_at-overflow_add-after t c =
     omega (arith, open_bounds _ _ _ _ _ _ c.loop-left.invariant.1 _ c.open_at.ensures _ (c.in_ok-open.was ∙ ap Ok c.in-Leaf.is) refl)
 
 pub types_at-seal-requires : goal.types_at-seal-requires
@@ -176,14 +171,9 @@ unfolding form_of entries bare leads
 types_at-seal-requires t c =
     let b = open_bounds _ _ _ _ _ _ c.loop-left.invariant.1 _ c.open_at.ensures _ (c.in_ok-open.was ∙ ap Ok c.in-Leaf.is) refl in (b.2, omega (arith, b), omega (arith, b))
 
-pub types_at-overflow_add-m-in-One : goal.types_at-overflow_add-m-in-One
+pub types_at-overflow_add-after-in-One : goal.types_at-overflow_add-after-in-One
 unfolding form_of entries bare leads
-types_at-overflow_add-m-in-One t c =
-    omega (arith, one-bounds _ _ _ _ _ _ c.loop-left.invariant.1 _ c.open_at.ensures _ _ _ (c.in_ok-open.was ∙ ap Ok c.in-One.is))
-
-pub types_at-overflow_add-m-in-One-2 : goal.types_at-overflow_add-m-in-One-2
-unfolding form_of entries bare leads
-types_at-overflow_add-m-in-One-2 t c =
+types_at-overflow_add-after-in-One t c =
     omega (arith, one-bounds _ _ _ _ _ _ c.loop-left.invariant.1 _ c.open_at.ensures _ _ _ (c.in_ok-open.was ∙ ap Ok c.in-One.is))
 
 pub types_at-seal-requires-in-One : goal.types_at-seal-requires-in-One
@@ -294,7 +284,7 @@ types_at-close-requires t c =
     let p = l.invariant.1 in
     let q = c.open_at.ensures in
     let end = c.match-open.end in
-    let i : Walked (node l.deep c.args.src.now.bytes.now c.args.src.now.counts l.p l.e l.m) l.m (Next end.at end.node) l.out c.match-open.out = elim c.match-open.branch [
+    let i : Walked (node l.deep c.args.src.now.bytes.now c.args.src.now.counts l.p l.here.at l.here.node) l.here.node (Next end.at end.node) l.out c.match-open.out = elim c.match-open.branch [
       | types_at-in-Leaf w ↦ walked_as _ _ _ _ _ _ _ w.out-is (ap (λ (x : Position). Next x.at x.node) w.end-is) (leaf-done _ _ _ _ _ _ p _ q _ _ (c.in_ok-open.was ∙ ap Ok w.in-Leaf.is) _ _ _ (seal_put _ _ _ _ _ w.seal.ensures))
       | types_at-in-List+in_ok-end-in-List w ↦ walked_to _ _ _ _ _ _ _ _ w.out-is w.end-is w.in_ok-end-in-List.was (below_node _ _ _ _ _ _ p _ q _ (c.in_ok-open.was ∙ ap Ok w.in-List.is) _ _ _ w.list_at.ensures)
       | types_at-in-FnPtr+in_ok-end-in-FnPtr w ↦ walked_to _ _ _ _ _ _ _ _ w.out-is w.end-is w.in_ok-end-in-FnPtr.was (below_node _ _ _ _ _ _ p _ q _ (c.in_ok-open.was ∙ ap Ok w.in-FnPtr.is) _ _ _ w.fn_ptr_at.ensures)
@@ -309,7 +299,7 @@ types_at-loop-left-preserved t c =
     let p = l.invariant.1 in
     let q = c.open_at.ensures in
     let end = c.match-open.end in
-    let i : Walked (node l.deep c.args.src.now.bytes.now c.args.src.now.counts l.p l.e l.m) l.m (Next end.at end.node) l.out c.match-open.out = elim c.match-open.branch [
+    let i : Walked (node l.deep c.args.src.now.bytes.now c.args.src.now.counts l.p l.here.at l.here.node) l.here.node (Next end.at end.node) l.out c.match-open.out = elim c.match-open.branch [
       | types_at-in-Leaf w ↦ walked_as _ _ _ _ _ _ _ w.out-is (ap (λ (x : Position). Next x.at x.node) w.end-is) (leaf-done _ _ _ _ _ _ p _ q _ _ (c.in_ok-open.was ∙ ap Ok w.in-Leaf.is) _ _ _ (seal_put _ _ _ _ _ w.seal.ensures))
       | types_at-in-List+in_ok-end-in-List w ↦ walked_to _ _ _ _ _ _ _ _ w.out-is w.end-is w.in_ok-end-in-List.was (below_node _ _ _ _ _ _ p _ q _ (c.in_ok-open.was ∙ ap Ok w.in-List.is) _ _ _ w.list_at.ensures)
       | types_at-in-FnPtr+in_ok-end-in-FnPtr w ↦ walked_to _ _ _ _ _ _ _ _ w.out-is w.end-is w.in_ok-end-in-FnPtr.was (below_node _ _ _ _ _ _ p _ q _ (c.in_ok-open.was ∙ ap Ok w.in-FnPtr.is) _ _ _ w.fn_ptr_at.ensures)

@@ -32,8 +32,8 @@ decreases-types_at l = 3 * l.d
 -- as many nodes with one child as levels are used are put, and whatever ends the rest from here ends the whole
 abbrev pub invariant-types_at-loop-left : goal.invariant-types_at-loop-left
 invariant-types_at-loop-left l =
-    let whole : Walk → List ℕ → Type 0 = λ r fin. Walked (series (node l.d l.src.bytes.now l.src.counts l.initial.p) (node l.d l.src.bytes.now l.src.counts l.then) l.count l.at l.n) l.n r l.initial.out fin in
-    (length l.out ≡ length l.initial.out) × (is_type_place l.p ≡ true) × (l.deep ≤ l.d) × (l.d - l.deep ≤ l.m) × (0 < l.left → Pending whole (node l.deep l.src.bytes.now l.src.counts l.p l.e l.m) (series (node l.d l.src.bytes.now l.src.counts l.then) (node l.d l.src.bytes.now l.src.counts l.then) (l.left - 1)) l.m (l.d - l.deep) l.out) × (l.left ≤ 0 → whole (Next l.e l.m) l.out)
+    let whole : Walk → List ℕ → Type 0 = λ r fin. Walked (series (node l.d l.src.bytes.now l.src.counts l.initial.p) (node l.d l.src.bytes.now l.src.counts l.then) l.count l.fn.from.at l.fn.from.node) l.fn.from.node r l.initial.out fin in
+    (length l.out ≡ length l.initial.out) × (is_type_place l.p ≡ true) × (l.deep ≤ l.d) × (l.d - l.deep ≤ l.here.node) × (0 < l.left → Pending whole (node l.deep l.src.bytes.now l.src.counts l.p l.here.at l.here.node) (series (node l.d l.src.bytes.now l.src.counts l.then) (node l.d l.src.bytes.now l.src.counts l.then) (l.left - 1)) l.here.node (l.d - l.deep) l.out) × (l.left ≤ 0 → whole (Next l.here.at l.here.node) l.out)
 
 -- a link uses up a level, and an item's end gives them all back
 abbrev pub decreases-types_at-loop-left : goal.decreases-types_at-loop-left

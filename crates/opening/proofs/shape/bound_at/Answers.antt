@@ -14,7 +14,7 @@ unfolding ended
 returns-in_err-number c =
     let e : c.from_residual.result ≡ Err c.in_err-number.field-0.0 = search rules in
     let p = placed_err c.checked_at.result _ c.placed.ensures c.in_err-number.was in
-    rw (e, p.2) (bound-bad c.args.kind c.args.d c.args.at c.args.n _ _ c.checked_at.ensures p.0 _ p.1)
+    rw (e, p.2) (bound-bad c.args.kind c.args.d c.args.here.at c.args.here.node _ _ c.checked_at.ensures p.0 _ p.1)
 
 pub bound_of-requires : goal.bound_of-requires
 bound_of-requires c =
@@ -22,4 +22,4 @@ bound_of-requires c =
 
 pub returns : goal.returns
 returns c =
-    bound-good c.args.kind c.args.d c.args.at _ _ _ c.checked_at.ensures _ _ _ _ _ (placed_ok c.checked_at.result _ c.placed.ensures c.in_ok-number.was) c.bound_of.ensures
+    bound-good c.args.kind c.args.d c.args.here.at _ _ _ c.checked_at.ensures _ _ _ _ _ (placed_ok c.checked_at.result _ c.placed.ensures c.in_ok-number.was) c.bound_of.ensures

@@ -15,7 +15,7 @@ pub loop-init : goal.loop-init
 loop-init c r fin y =
     let a = c.args in
     let z : a.count - 0 ≡ a.count = omega arith in
-    subst (λ (k : ℕ). Walked (many (bound_at a.kind a.d a.src.now.bytes.now) k a.at a.n) a.n r a.out.now fin) z y
+    subst (λ (k : ℕ). Walked (many (bound_at a.kind a.d a.src.now.bytes.now) k a.from.at a.from.node) a.from.node r a.out.now fin) z y
 
 pub returns-in_err-end : goal.returns-in_err-end
 unfolding ended

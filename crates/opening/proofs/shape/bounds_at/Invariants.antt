@@ -10,4 +10,4 @@ use Rattle.opening.proofs.shape.bounds_at.Given as goal
 abbrev pub invariant-loop : goal.invariant-loop
 invariant-loop l =
     (r : Walk) (fin : List ℕ) → Walked (many (bound_at l.kind l.d l.src.bytes.now) (l.count - l.counter) l.end.at l.end.node) l.end.node r l.out fin
-    → Walked (many (bound_at l.kind l.d l.src.bytes.now) l.count l.at l.n) l.n r l.initial.out fin
+    → Walked (many (bound_at l.kind l.d l.src.bytes.now) l.count l.fn.from.at l.fn.from.node) l.fn.from.node r l.initial.out fin
