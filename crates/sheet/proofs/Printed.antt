@@ -9,7 +9,7 @@ use Rattle.answer.specs.declared.Answer.{Answer}
 use Rattle.answer.specs.Size.{max_size}
 use Rattle.register.specs.Calls.{Held, holding, standings_of}
 use Rattle.register.specs.declared.Register.{Register}
-use Rattle.layout.specs.Layout.{layout_of, acks_from}
+use Rattle.layout.specs.Layout.{Parsed, layout_of, acks_from}
 use Rattle.sheet.specs.Lines.{header}
 use Rattle.sheet.specs.Filed.{register_of}
 use Rattle.sheet.specs.Text.{own_sets, printed, accepted_text, text_for, text_of, Runs}
@@ -17,7 +17,6 @@ use Rattle.text.specs.Printing.{max_offset, further, laid}
 use Rattle.sheet.specs.Acks.{acks_by, acked_marks}
 use Rattle.sheet.specs.Rows.{rows_by, printed_by}
 use Rattle.layout.specs.declared.Layout.{Layout}
-use Rattle.layout.specs.declared.Parsed.{Parsed}
 use Rattle.register.proofs.Lent.{Provided}
 use Rattle.sheet.proofs.Agreement.{register-provided, printed-agree}
 use Rattle.sheet.proofs.Fits.{runs_short, runs_fits}
