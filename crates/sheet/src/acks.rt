@@ -15,6 +15,11 @@ use register::MAX_SIZE;
 
 impl Rows {
     // Marks a row, or answers why not.
+    #[tactic(
+        auto,
+        using(answer::proofs::Admits::row_ok, answer::proofs::Admits::refused),
+        unfolding(crate::specs::Acks::ack_row_code, crate::specs::Acks::ack_row_marks)
+    )]
     fn acknowledge(&self, marks: &mut [u8; MAX_SIZE], row: u32) -> Result<(), Refusal>
         ensures { (number_in result ≡ ack_row_code self.now.standings self.now.register.counts.specs marks.old row) × (marks.new ≡ ack_row_marks self.now.standings self.now.register.counts.specs marks.old row) }
     {

@@ -24,6 +24,7 @@ fn file_all(register: &mut Register, sets: &mut [u32], s: &[u8], layout: Layout)
 }
 
 // The register of an accepted sheet, with words that are lent for its sets.
+#[tactic(auto, unfolding(crate::specs::Filed::register_of))]
 pub fn register_of(sets: &mut [u32], s: &[u8], layout: Layout) -> Register
     ensures { holding result sets.new ≡ register_of s.now layout sets.old }
 {

@@ -83,6 +83,7 @@ fn print_refusal(out: &mut [u8], place: usize) -> Result<usize, Fault>
 }
 
 // Runs a deposit sheet on a register and prints what document 01 says, each line ended by 0A.
+#[tactic(auto, unfolding(crate::specs::Text::text_of))]
 pub fn run_sheet(sheet: &[u8], out: &mut [u8]) -> Result<usize, Fault>
     ensures { Runs (text_of sheet.now) (panel_of result) out.old out.new }
 {
