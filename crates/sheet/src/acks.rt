@@ -1,4 +1,5 @@
-// Acknowledging by standings that are known: what each acknowledgement answers, and the marks afterwards.
+// Acknowledging by standings that are known: what each acknowledgement answers, and the marks
+// afterwards.
 ghost use Rattle.std.specs.Prelude.{◌≡◌};
 ghost use Rattle.answer.specs.Answers.{number_in};
 ghost use Rattle.layout.specs.Layout.{acks_from};
@@ -15,13 +16,12 @@ use register::MAX_SIZE;
 
 impl Rows {
     // Marks a row, or answers why not.
-    #[tactic(
-        auto,
-        using(answer::proofs::Admits::row_ok, answer::proofs::Admits::refused),
-        unfolding(crate::specs::Acks::ack_row_code, crate::specs::Acks::ack_row_marks)
-    )]
+    #[tactic(auto, using(answer::proofs::Admits::row_ok, answer::proofs::Admits::refused), unfolding(crate::specs::Acks::ack_row_code, crate::specs::Acks::ack_row_marks))]
     fn acknowledge(&self, marks: &mut [u8; MAX_SIZE], row: u32) -> Result<(), Refusal>
-        ensures { (number_in result ≡ ack_row_code self.now.standings self.now.register.counts.specs marks.old row) × (marks.new ≡ ack_row_marks self.now.standings self.now.register.counts.specs marks.old row) }
+        ensures code { number_in result
+            ≡ ack_row_code self.now.standings self.now.register.counts.specs marks.old row }
+        ensures marks_after { marks.new
+            ≡ ack_row_marks self.now.standings self.now.register.counts.specs marks.old row }
     {
         let row = row as usize;
         check_row(self.count(), row)?;
@@ -32,6 +32,7 @@ impl Rows {
     }
 
     // The lines of the sheet's acknowledgements, each of which may mark its row.
+    #[tactic(auto, using(layout::proofs::Lists::list_none, layout::proofs::Lists::list_cut, text::proofs::Laying::prints_none), unfolding(crate::specs::Acks::acks_by, crate::specs::Acks::acked_marks))]
     pub fn acks_to(
         &self,
         out: &mut [u8],
@@ -40,8 +41,13 @@ impl Rows {
         layout: Layout,
         marks: &mut [u8; MAX_SIZE],
     ) -> usize
-        ensures prints { Prints (acks_by self.now.standings self.now.register.counts.specs marks.old (acks_from layout.acknowledged s.now layout.starts.acks)) to result out.old out.new }
-        ensures marks_after { marks.new ≡ acked_marks self.now.standings self.now.register.counts.specs marks.old (acks_from layout.acknowledged s.now layout.starts.acks) }
+        ensures prints { Prints
+            (acks_by self.now.standings self.now.register.counts.specs marks.old
+            (acks_from layout.acknowledged s.now layout.starts.acks))
+            to result out.old out.new }
+        ensures marks_after { marks.new
+            ≡ acked_marks self.now.standings self.now.register.counts.specs marks.old
+            (acks_from layout.acknowledged s.now layout.starts.acks) }
     {
         let mut at = layout.starts.acks;
         let mut here = to;

@@ -9,8 +9,11 @@ use number::blob::blob_at;
 use register::Register;
 
 // Files the sheet's blobs, from row 1 on.
+#[tactic(auto, using(layout::proofs::Lists::list_none, layout::proofs::Lists::list_cut), unfolding(crate::specs::Filed::file_all))]
 fn file_all(register: &mut Register, sets: &mut [u32], s: &[u8], layout: Layout)
-    ensures { holding register.new sets.new ≡ file_all (holding register.old sets.old) 1 (blobs_from layout.rows s.now layout.starts.blobs) }
+    ensures { holding register.new sets.new
+        ≡ file_all (holding register.old sets.old) 1
+        (blobs_from layout.rows s.now layout.starts.blobs) }
 {
     let mut at = layout.starts.blobs;
     for i in 0..layout.rows as usize {

@@ -26,7 +26,8 @@ mod rows;
 // Refuses a print of `needed` bytes where there is room for fewer.
 fn check_room(room: usize, needed: usize) -> Result<(), Fault>
     ensures fits { IfOk result (λ _. needed ≤ room) }
-    ensures short { IfErr result (λ fault. (room < needed) × (fault ≡ fault_at OutputTooShort needed)) }
+    ensures short { IfErr result
+        (λ fault. (room < needed) × (fault ≡ fault_at OutputTooShort needed)) }
 {
     if room < needed {
         return Err(Refusal::OutputTooShort.at(needed));
@@ -35,18 +36,25 @@ fn check_room(room: usize, needed: usize) -> Result<(), Fault>
 }
 
 // The length of the print; the marks become those after the acknowledgements.
+#[tactic(auto, using(crate::proofs::Fits::sized))]
 fn size_of(s: &[u8], layout: Layout, rows: &Rows, marks: &mut [u8; MAX_SIZE]) -> usize
-    ensures value { result ≡ further 0 (length (printed_by rows.now.register rows.now.standings marks.old (acks_from layout.acknowledged s.now layout.starts.acks))) }
-    ensures marks_after { marks.new ≡ acked_marks rows.now.standings rows.now.register.counts.specs marks.old (acks_from layout.acknowledged s.now layout.starts.acks) }
+    ensures value { result
+        ≡ further 0 (length (printed_by rows.now.register rows.now.standings marks.old
+        (acks_from layout.acknowledged s.now layout.starts.acks))) }
+    ensures marks_after { marks.new
+        ≡ acked_marks rows.now.standings rows.now.register.counts.specs marks.old
+        (acks_from layout.acknowledged s.now layout.starts.acks) }
 {
-    let mut none = [0u8; 1];
-    let size = rows.acks_to(&mut none, 0, s, layout, marks);
-    rows.head_to(&mut none, size, marks)
+    let size = rows.acks_to(&mut [], 0, s, layout, marks);
+    rows.head_to(&mut [], size, marks)
 }
 
 // Lays the print over the output; `marks` are those after the acknowledgements.
 fn fill(out: &mut [u8], s: &[u8], layout: Layout, rows: &Rows, marks: &[u8; MAX_SIZE])
-    ensures { out.new ≡ laid out.old 0 (header ++ rows_by rows.now.register rows.now.standings marks.now rows.now.register.counts.specs 0 ++ acks_by rows.now.standings rows.now.register.counts.specs rows.now.register.marks (acks_from layout.acknowledged s.now layout.starts.acks)) }
+    ensures { out.new ≡ laid out.old 0 (header
+        ++ rows_by rows.now.register rows.now.standings marks.now rows.now.register.counts.specs 0
+        ++ acks_by rows.now.standings rows.now.register.counts.specs rows.now.register.marks
+        (acks_from layout.acknowledged s.now layout.starts.acks)) }
 {
     let here = rows.head_to(out, 0, marks);
     let mut again = rows.register.marks;
@@ -72,11 +80,13 @@ fn print(out: &mut [u8], s: &[u8], layout: Layout) -> Result<usize, Fault>
 }
 
 // Prints the line of a refused sheet.
+// Kept: this and `print` both measure, check the room and lay. A function that takes the laying as
+// a closure needs a longer contract than these lines.
+#[tactic(auto, using(crate::proofs::Fits::runs_short, crate::proofs::Fits::runs_fits, crate::proofs::Lengths::refusal_length))]
 fn print_refusal(out: &mut [u8], place: usize) -> Result<usize, Fault>
     ensures { Runs (refusal_line place) (panel_of result) out.old out.new }
 {
-    let mut none = [0u8; 1];
-    let needed = lines::refusal_line_to(&mut none, 0, place);
+    let needed = lines::refusal_line_to(&mut [], 0, place);
     check_room(out.len(), needed)?;
     lines::refusal_line_to(out, 0, place);
     Ok(needed)

@@ -44,8 +44,11 @@ impl Rows {
     }
 
     // The lines of all rows.
+    #[tactic(auto, using(text::proofs::Laying::prints_none), unfolding(crate::specs::Rows::rows_by))]
     fn lines_to(&self, out: &mut [u8], to: usize, marks: &[u8; MAX_SIZE]) -> usize
-        ensures { Prints (rows_by self.now.register self.now.standings marks.now self.now.register.counts.specs 0) to result out.old out.new }
+        ensures { Prints
+            (rows_by self.now.register self.now.standings marks.now self.now.register.counts.specs 0)
+            to result out.old out.new }
     {
         let mut here = to;
         for i in 0..self.count() {
@@ -56,7 +59,10 @@ impl Rows {
 
     // The header and the lines of all rows.
     pub fn head_to(&self, out: &mut [u8], to: usize, marks: &[u8; MAX_SIZE]) -> usize
-        ensures { Prints (header ++ rows_by self.now.register self.now.standings marks.now self.now.register.counts.specs 0) to result out.old out.new }
+        ensures { Prints (header
+            ++ rows_by self.now.register self.now.standings marks.now
+            self.now.register.counts.specs 0)
+            to result out.old out.new }
     {
         let here = text_to(out, to, b"row standing code place mark\n");
         self.lines_to(out, here, marks)

@@ -5,15 +5,11 @@ use native.Mathlib.Omega.{arith}
 use lib.ListN.{take, drop}
 use Rattle.number.specs.Blob.{blob_at}
 use Rattle.number.proofs.Blobs.{blob-within}
-use Rattle.layout.proofs.Lists.{list_none, list_cut, list_next}
+use Rattle.layout.proofs.Lists.{list_next}
 use Rattle.answer.specs.Answers.{number_in}
 use Rattle.register.specs.Calls.{changed}
-use Rattle.sheet.proofs.Filed.{filed-none, filed-next}
+use Rattle.sheet.proofs.Filed.{filed-next}
 use Rattle.sheet.proofs.blobs.file_all.Goals as goal
-
-pub returns-in_default : goal.returns-in_default
-returns-in_default c =
-    filed-none _ _ _ _ c.loop-i.invariant (list_cut (blob_at _) _ _ c.blob_at.ensures _ (omega (arith, c.loop-i-test.true)) c.in_default.is)
 
 pub overflow_sub-start : goal.overflow_sub-start
 overflow_sub-start c = omega (arith, (blob-within _ _ c.blob_at.ensures c.in-Ok.is).0)
@@ -28,6 +24,3 @@ loop-i-preserved c =
     let z : n - i - 1 ≡ n - (i + 1) = omega arith in
     let e = list_next (blob_at c.args.s.now) (λ v next. take v (drop (next - v) c.args.s.now)) _ c.blob_at.ensures (n - i) (omega (arith, c.loop-i-test.true)) c.in-Ok.is in
     filed-next _ _ _ _ c.loop-i.invariant _ _ _ _ (blob-within _ _ c.blob_at.ensures c.in-Ok.is).0 (rw z at e) (changed (number_in c.file.result) c.file.new.self) _ c.file.ensures
-
-pub returns : goal.returns
-returns c = filed-none _ _ _ _ c.loop-i.invariant (list_none (blob_at _) _ _ _ (omega (arith, c.loop-i-test.false)))

@@ -3,8 +3,8 @@ use Prim.Native.Nat.{◌+◌, ◌-◌}
 use mathlib.Core.Path.{◌≡◌, ◌∙◌}
 use native.Mathlib.Omega.{arith}
 use Rattle.number.specs.Checked.{checked_at}
-use Rattle.layout.proofs.Lists.{list_none, list_cut, list_next}
-use Rattle.sheet.proofs.Acknowledging.{lines_none, lines_next, marks_none, marks_next}
+use Rattle.layout.proofs.Lists.{list_next}
+use Rattle.sheet.proofs.Acknowledging.{lines_next, marks_next}
 use Rattle.sheet.proofs.rows.Rows.acks_to.Goals as goal
 
 pub loop-preserved : goal.loop-preserved
@@ -15,14 +15,4 @@ loop-preserved c =
     let l = list_next (checked_at _) (λ v next. v) _ c.checked_at.ensures (n - i) (omega (arith, c.loop-test.true)) c.in-Ok.is in
     let e = rw z at l in
     let p = c.acknowledge-told.ensures in
-    (λ q new t. c.loop.invariant.0 q new (lines_next _ _ _ _ e p.1 (c.number_in.ensures ∙ p.0) _ _ q _ _ new c.ack_line_to-here.ensures t), marks_next _ _ _ _ e p.1 c.loop.invariant.1)
-
-pub returns-in_default : goal.returns-in_default
-returns-in_default c =
-    let e = list_cut (checked_at _) (λ v next. v) _ c.checked_at.ensures _ (omega (arith, c.loop-test.true)) c.in_default.is in
-    record { prints = c.loop.invariant.0 _ _ (lines_none _ _ _ _ e _ _); marks_after = marks_none _ _ _ _ e c.loop.invariant.1 }
-
-pub returns : goal.returns
-returns c =
-    let e = list_none (checked_at _) (λ v next. v) _ _ (omega (arith, c.loop-test.false)) in
-    record { prints = c.loop.invariant.0 _ _ (lines_none _ _ _ _ e _ _); marks_after = marks_none _ _ _ _ e c.loop.invariant.1 }
+    (λ q new t. c.loop.invariant.0 q new (lines_next _ _ _ _ e p.marks_after (c.number_in.ensures ∙ p.code) _ _ q _ _ new c.ack_line_to-here.ensures t), marks_next _ _ _ _ e p.marks_after c.loop.invariant.1)
