@@ -62,9 +62,10 @@ fn blank_print() -> [u8; PRINT]
 // Runs a sheet and writes its print.
 fn run(rt: &impl Print, bytes: &[u8]) -> Result<(), Failure<'static>> {
     let mut out = blank_print();
-    let answer = sheet::run_sheet(bytes, &mut out);
-    let print = out.get(..answer.place).ok_or(Failure::TooLong)?;
-    rt.write_all(print).map_err(|reason| Failure::Io {
+    let Ok(n) = sheet::run_sheet(bytes, &mut out) else {
+        return Err(Failure::TooLong);
+    };
+    rt.write_all(&out[..n]).map_err(|reason| Failure::Io {
         name: "standard output",
         reason,
     })

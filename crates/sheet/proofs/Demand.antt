@@ -17,7 +17,7 @@ use Rattle.register.specs.Demand.{asks, report_of, answer_r, next_r, answers_r, 
 use Rattle.register.proofs.Demand.{demand_3}
 use Rattle.layout.specs.Layout.{layout_of, counts_of, blobs_from, acks_from}
 use Rattle.layout.specs.declared.Layout.{Layout}
-use Rattle.layout.specs.declared.Parsed.TheVariants.{Accepted}
+use Rattle.std.specs.Prelude.{Ok}
 use Rattle.layout.proofs.Sound.{sheet_sound}
 use Rattle.sheet.specs.Lines.{header, ack_line}
 use Rattle.sheet.specs.Filed.{file_all, register_of}
@@ -109,7 +109,7 @@ opened_rows counts d r l u =
     refl
 
 -- the print of an accepted sheet is the model's, of the counts, blobs and rows that spell it
-pub sheet_model : (s : List ℕ) → Bytes s → (l : Layout) → layout_of s ≡ Accepted l
+pub sheet_model : (s : List ℕ) → Bytes s → (l : Layout) → layout_of s ≡ Ok l
     → text_of s ≡ text_m (counts_of s l) (blobs_from l.rows s l.starts.blobs) (acks_from l.acknowledged s l.starts.acks)
 unfolding text_of register_of
 sheet_model s bytes l e =

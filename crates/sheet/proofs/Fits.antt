@@ -6,9 +6,12 @@ use mathlib.Core.List.{List, ◌++◌}
 use native.Mathlib.Omega.{arith}
 use lib.ListN.{length, drop, length-append}
 use lib.Seq.{sets-eq}
-use borrow.Author.Tests.{lt-leb, le-leb}
+use mathlib.Core.Bool.{Bool, true, false, cond}
+use lib.Dec.{leb}
+use borrow.Author.Tests.{lt-leb, le-leb, leb-true}
+use Rattle.answer.specs.declared.Answer.{Answer}
 use Rattle.answer.specs.Answers.{answer}
-use Rattle.answer.specs.Written.{answer_of, output_of}
+use Rattle.answer.specs.Written.{written, refused, answer_of, output_of}
 use Rattle.register.specs.declared.Register.{Register}
 use Rattle.sheet.specs.Lines.{header}
 use Rattle.sheet.specs.Acks.{acks_by, acked_marks}
@@ -31,6 +34,15 @@ module _ (text : List ℕ) (h : length text ≤ max_offset) {needed : ℕ} (e : 
       let l = le-leb (length text) (length out) (omega (arith, needs)) in
       let z : 0 + length text ≡ length text = omega arith in
       (rw l (ap (λ n. answer 0 n) needs), rw l (en ∙ laid-sets text out 0 (omega arith) ∙ sets-eq text out 0 (omega (arith, needs)) ∙ ap (λ k. text ++ drop k out) z))
+
+-- what is printed is within the output
+pub runs_within : (text : List ℕ) (n : ℕ) (out new : List ℕ) → Runs text (answer 0 n) out new → n ≤ length out
+unfolding Runs answer_of
+runs_within text n out new x = go (leb (length text) (length out)) refl x.0
+  where
+    go : (b : Bool) → leb (length text) (length out) ≡ b → answer 0 n ≡ answer_of (cond b (written text) (refused 15 (length text))) → n ≤ length out
+    go true h e = omega (arith, leb-true (length text) (length out) h, ap (λ (a : Answer). a.place) e)
+    go false h e = let z : ◌≡◌ {A = ℕ} 0 15 = ap (λ (a : Answer). a.code) e in absurd (omega arith)
 
 -- the acknowledgements measured first, then the rows by the marks after them
 pub sized : (g : Register) (standings marks acks : List ℕ) {after : List ℕ} {size r : ℕ} → after ≡ acked_marks standings g.counts.specs marks acks

@@ -1,6 +1,6 @@
 pub mod Filed
 pub mod Acknowledging
-pub mod Rows
+pub mod RowLines
 pub mod Fits
 pub mod Lengths
 pub mod Agreement

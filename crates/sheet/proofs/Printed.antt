@@ -1,23 +1,21 @@
--- The ways out of `print` and `run_sheet`: an accepted sheet's print, by the register that its blobs make.
+-- The ways out of `print`: an accepted sheet's print, by the register that its blobs make.
 -- Assumes nothing.
 use Prim.Native.Nat.{ℕ, ◌<◌, ◌≤◌, ◌^◌}
 use mathlib.Core.Path.{◌≡◌, sym, ap, ◌∙◌, subst}
 use mathlib.Core.List.{List, ◌++◌}
 use lib.ListN.{length}
 use Rattle.answer.specs.Answers.{answer}
-use Rattle.answer.specs.declared.Answer.{Answer}
 use Rattle.answer.specs.Size.{max_size}
 use Rattle.register.specs.Calls.{Held, holding, standings_of}
 use Rattle.register.specs.declared.Register.{Register}
-use Rattle.layout.specs.Layout.{layout_of, acks_from}
+use Rattle.layout.specs.Layout.{acks_from}
 use Rattle.sheet.specs.Lines.{header}
 use Rattle.sheet.specs.Filed.{register_of}
-use Rattle.sheet.specs.Text.{own_sets, printed, accepted_text, text_for, text_of, Runs}
+use Rattle.sheet.specs.Text.{own_sets, printed, accepted_text, Runs}
 use Rattle.text.specs.Printing.{max_offset, further, laid}
 use Rattle.sheet.specs.Acks.{acks_by, acked_marks}
 use Rattle.sheet.specs.Rows.{rows_by, printed_by}
 use Rattle.layout.specs.declared.Layout.{Layout}
-use Rattle.layout.specs.declared.Parsed.{Parsed}
 use Rattle.register.proofs.Lent.{Provided}
 use Rattle.sheet.proofs.Agreement.{register-provided, printed-agree}
 use Rattle.sheet.proofs.Fits.{runs_short, runs_fits}
@@ -52,7 +50,3 @@ module _ (s : List ℕ) (l : Layout) {g : Register} {sets : List ℕ} (eg : hold
       subst (λ t. Runs t (answer 0 needed) out new) by_register
       (runs_fits _ bound en out k
       (e ∙ ap (λ m. laid out 0 (header ++ rows_by g standings m g.counts.specs 0 ++ acks_by standings g.counts.specs g.marks (acks_from l.acknowledged s l.starts.acks))) em))
-
-pub runs_layout : (s : List ℕ) {p q : Parsed} → p ≡ layout_of s → p ≡ q → (r : Answer) (old new : List ℕ) → Runs (text_for s q) r old new → Runs (text_of s) r old new
-unfolding text_of
-runs_layout s ep eq r old new x = subst (λ y. Runs (text_for s y) r old new) (sym eq ∙ ep) x

@@ -1,14 +1,9 @@
 -- Internal: the print by standings that are known and marks alone.
-use Rattle.std.specs.Prelude.{ℕ, zero, suc, ◌+◌, ◌≤◌, List, [], ◌++◌, length, get_or}
-use Rattle.answer.specs.Size.{max_size}
+use Rattle.std.specs.Prelude.{ℕ, zero, suc, ◌+◌, List, [], ◌++◌, get_or}
 use Rattle.answer.specs.Answers.{Told, asked_of}
 use Rattle.register.specs.declared.Register.{Register}
 use Rattle.sheet.specs.Lines.{header, row_line}
 use Rattle.sheet.specs.Acks.{acks_by, acked_marks}
-
--- there are standings and marks for all rows, which are within the size: what the functions behind the print require
-abbrev pub Known : Register → (standings marks : List ℕ) → Type 0
-Known g standings marks = (g.counts.specs ≤ max_size) × (g.counts.specs ≤ length standings) × (g.counts.specs ≤ length marks)
 
 -- what asking row i gives, by these standings and marks
 unfoldable pub asked_by : Register → (standings marks : List ℕ) → ℕ → Told

@@ -1,15 +1,13 @@
 -- Document 01, "Deposit sheet": what a sheet prints. "The program files and acknowledges in that order, then prints all rows, then `ack`, row
 -- and answer for each press".
-use Rattle.std.specs.Prelude.{ℕ, zero, suc, ◌+◌, ◌*◌, List, [], ◌∷◌, ◌++◌, length, replicate}
+use Rattle.std.specs.Prelude.{ℕ, zero, suc, ◌+◌, ◌*◌, List, [], ◌∷◌, ◌++◌, length, replicate, Ok, Err}
 use Rattle.answer.specs.Written.{fitted, Writes}
 use Rattle.answer.specs.declared.Answer.{Answer}
 use Rattle.register.specs.declared.Register.{Register}
 use Rattle.register.specs.Calls.{Held, acknowledge_of, ask_of}
 use Rattle.answer.specs.Size.{max_size, words}
 use Rattle.layout.specs.declared.Layout.{Layout}
-use Rattle.layout.specs.declared.Parsed.{Parsed}
-use Rattle.layout.specs.declared.Parsed.TheVariants.{Refused, Accepted}
-use Rattle.layout.specs.Layout.{layout_of, acks_from}
+use Rattle.layout.specs.Layout.{Parsed, layout_of, acks_from}
 use Rattle.sheet.specs.Filed.{register_of}
 use Rattle.sheet.specs.Lines.{header, row_line, ack_line, refusal_line}
 
@@ -42,8 +40,8 @@ abbrev pub accepted_text : List ℕ → Layout → List ℕ
 accepted_text s l = printed (register_of s l own_sets) (acks_from l.acknowledged s l.starts.acks)
 
 abbrev pub text_for : List ℕ → Parsed → List ℕ
-text_for s (Refused place) = refusal_line place
-text_for s (Accepted l) = accepted_text s l
+text_for s (Err place) = refusal_line place
+text_for s (Ok l) = accepted_text s l
 
 -- the text that a sheet prints
 unfoldable pub text_of : List ℕ → List ℕ

@@ -6,37 +6,33 @@ ghost use Rattle.sheet.specs.Filed.{file_all, register_of};
 
 use layout::Layout;
 use number::blob::blob_at;
-use number::checked::Checked;
 use register::Register;
 
-// Files `count` blobs, which stand in the sheet from `at` on, from row 1 on.
-fn file_all(sets: &mut [u32], s: &[u8], at: usize, count: u32, g: Register) -> Register
-    ensures { holding result sets.new ≡ file_all (holding g sets.old) 1 (blobs_from count s.now at) }
+// Files the sheet's blobs, from row 1 on.
+#[tactic(auto, using(layout::proofs::Lists::list_none, layout::proofs::Lists::list_cut), unfolding(crate::specs::Filed::file_all))]
+fn file_all(register: &mut Register, sets: &mut [u32], s: &[u8], layout: Layout)
+    ensures { holding register.new sets.new
+        ≡ file_all (holding register.old sets.old) 1
+        (blobs_from layout.rows s.now layout.starts.blobs) }
 {
-    let mut register = g;
-    let mut here = at;
-    let mut left = count;
-    let mut row = 1;
-    while 0 < left {
-        match blob_at(s, here) {
-            Checked::Good { value, next } => {
-                let start = next - value as usize;
-                let _ = register.file(row, &s[start..next], sets);
-                here = next;
-            }
-            Checked::Bad { refusal: _ } => return register,
-        }
-        left -= 1;
-        row += 1;
+    let mut at = layout.starts.blobs;
+    for i in 0..layout.rows as usize {
+        let Ok(blob) = blob_at(s, at) else {
+            return;
+        };
+        let start = blob.next - blob.value as usize;
+        let _ = register.file(i + 1, &s[start..blob.next], sets);
+        at = blob.next;
     }
-    register
 }
 
 // The register of an accepted sheet, with words that are lent for its sets.
+#[tactic(auto, unfolding(crate::specs::Filed::register_of))]
 pub fn register_of(sets: &mut [u32], s: &[u8], layout: Layout) -> Register
     ensures { holding result sets.new ≡ register_of s.now layout sets.old }
 {
     let counts = layout::counts_of(s, layout);
-    let (register, _) = Register::open(counts, sets);
-    file_all(sets, s, layout.starts.blobs, layout.rows, register)
+    let (mut register, _) = Register::open(counts, sets);
+    file_all(&mut register, sets, s, layout);
+    register
 }

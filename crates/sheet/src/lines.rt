@@ -1,4 +1,5 @@
 // The lines that a sheet prints: of a row, of an acknowledgement, of a refused sheet.
+ghost use Rattle.std.specs.Prelude.{◌≡◌};
 ghost use Rattle.answer.specs.Answers.{answered};
 ghost use Rattle.text.specs.Printing.{Prints};
 ghost use Rattle.sheet.specs.Lines.{field, standing_name, row_line, ack_line, refusal_line};
@@ -15,15 +16,16 @@ fn field_to(out: &mut [u8], to: usize, n: u64) -> usize
 }
 
 // A space and a standing's name.
-fn standing_name_to(out: &mut [u8], to: usize, standing: u32) -> usize
-    ensures { Prints (standing_name standing) to result out.old out.new }
+#[tactic(auto, unfolding(crate::specs::Lines::standing_name))]
+fn standing_name(standing: u32) -> &'static [u8]
+    ensures { result.now ≡ standing_name standing }
 {
     match standing {
-        0 => text_to(out, to, b" EMPTY"),
-        1 => text_to(out, to, b" BAD"),
-        2 => text_to(out, to, b" LOOP"),
-        3 => text_to(out, to, b" LEANS"),
-        _ => text_to(out, to, b" CLEAN"),
+        0 => b" EMPTY",
+        1 => b" BAD",
+        2 => b" LOOP",
+        3 => b" LEANS",
+        _ => b" CLEAN",
     }
 }
 
@@ -32,7 +34,7 @@ pub fn row_line_to(out: &mut [u8], to: usize, row: usize, asked: Asked) -> usize
     ensures { Prints (row_line row (answered asked)) to result out.old out.new }
 {
     let named = decimal_to(out, to, row as u64);
-    let stood = standing_name_to(out, named, asked.standing);
+    let stood = text_to(out, named, standing_name(asked.standing));
     let found = field_to(out, stood, asked.finding as u64);
     let placed = field_to(out, found, asked.place as u64);
     let marked = field_to(out, placed, asked.mark as u64);

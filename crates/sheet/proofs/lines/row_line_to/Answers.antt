@@ -10,7 +10,7 @@ returns c =
     (prints_then _ _ _ _ _ _ _ _
     (prints_then _ _ _ _ _ _ _ _
     (prints_then _ _ _ _ _ _ _ _
-    (prints_then _ _ _ _ _ _ _ _ c.decimal_to-named.ensures c.standing_name_to-stood.ensures)
+    (prints_then _ _ _ _ _ _ _ _ c.decimal_to-named.ensures (rw c.standing_name.ensures at c.text_to-stood.ensures))
     c.field_to-found.ensures)
     c.field_to-placed.ensures)
     c.field_to-marked.ensures)
