@@ -98,25 +98,26 @@ fn front_to(out: &mut [u8], table: &[u32], rec: Node, at: usize, n: usize) -> Op
     }
 }
 
-// The subtree whose root is record n, from the offset `at` on, with d levels left: up to its end where the record is an ARRAY or has no children,
+// The subtree whose root is the record of `here`, with d levels left: up to its end where the record is an ARRAY or has no children,
 // and else the bytes before its children. None where the table has no blob that fits.
 #[cycle(all_at_array_at_part_at)]
-fn part_at(out: &mut [u8], d: usize, table: &[u32], at: usize, n: usize) -> Option<Part>
-    requires { n ≤ length table.now }
-    ensures { Parted d table.now n at result out.old out.new }
+fn part_at(out: &mut [u8], d: usize, table: &[u32], here: Position) -> Option<Part>
+    requires { here.node ≤ length table.now }
+    ensures { Parted d table.now here.node here.at result out.old out.new }
 {
     if d == 0 {
         return None;
     }
+    let n = here.node;
     if table.len() < 6 * n + 6 {
         return None;
     }
     let rec = grammar::record_at(table, n);
     if rec.kind == ARRAY {
-        let end = array_at(out, d - 1, &*table, rec, at, n)?;
+        let end = array_at(out, d - 1, &*table, rec, here)?;
         return Some(Part::Ends { end });
     }
-    let e = front_to(out, &*table, rec, at, n)?;
+    let e = front_to(out, &*table, rec, here.at, n)?;
     let children = rec.children;
     if children == 0 {
         let end = Position { at: e, node: n + 1 };
@@ -127,24 +128,18 @@ fn part_at(out: &mut [u8], d: usize, table: &[u32], at: usize, n: usize) -> Opti
 
 // An ARRAY: its type, then Rank, NumSizes and the sizes, then NumLoBounds and the low bounds.
 #[cycle(all_at_array_at_part_at)]
-fn array_at(
-    out: &mut [u8],
-    d: usize,
-    table: &[u32],
-    rec: Node,
-    at: usize,
-    n: usize,
-) -> Option<Position>
-    requires { n < length table.now }
-    ensures { Emits (parts (emit d table.now) (parts_of array table.now n rec) (n + 1)) at (ended result) out.old out.new }
+fn array_at(out: &mut [u8], d: usize, table: &[u32], rec: Node, here: Position) -> Option<Position>
+    requires { here.node < length table.now }
+    ensures { Emits (parts (emit d table.now) (parts_of array table.now here.node rec) (here.node + 1)) here.at (ended result) out.old out.new }
 {
-    let first = number_to(out, rec.kind, at)?;
-    let typed = all_at(out, d, &*table, 1, first, n + 1)?;
-    let sizes = pair_to(out, rec.a, rec.b, typed.at)?;
-    let sized = all_at(out, d, &*table, rec.b, sizes, typed.node)?;
+    let at = number_to(out, rec.kind, here.at)?;
+    let node = here.node + 1;
+    let typed = all_at(out, d, &*table, 1, Position { at, node })?;
+    let at = pair_to(out, rec.a, rec.b, typed.at)?;
+    let sized = all_at(out, d, &*table, rec.b, Position { at, ..typed })?;
     let lows = rec.children.saturating_sub(1).saturating_sub(rec.b);
-    let then = number_to(out, lows, sized.at)?;
-    all_at(out, d, &*table, lows, then, sized.node)
+    let at = number_to(out, lows, sized.at)?;
+    all_at(out, d, &*table, lows, Position { at, ..sized })
 }
 
 // `count` subtrees one after the other; none from an offset past the end on. The children of the last of them are the next of the loop, one level down.
@@ -154,37 +149,35 @@ pub fn all_at(
     d: usize,
     table: &[u32],
     count: u32,
-    at: usize,
-    n: usize,
+    from: Position,
 ) -> Option<Position>
-    requires { n ≤ length table.now }
-    ensures { Emits (times (emit d table.now) count n) at (ended result) out.old out.new }
+    requires { from.node ≤ length table.now }
+    ensures { Emits (times (emit d table.now) count from.node) from.at (ended result) out.old out.new }
 {
-    if out.len() < at {
+    if out.len() < from.at {
         return None;
     }
     let mut left = count;
-    let mut e = at;
-    let mut m = n;
+    let mut here = from;
     let mut deep = d;
     while 0 < left {
-        let part = part_at(out, deep, &*table, e, m)?;
+        let part = part_at(out, deep, &*table, here)?;
         let end = match part {
-            Part::Goes { at: f, children } => {
+            Part::Goes { at, children } => {
+                let node = here.node + 1;
+                let first = Position { at, node };
                 if left == 1 {
-                    e = f;
-                    m += 1;
+                    here = first;
                     left = children;
                     deep -= 1;
                     continue;
                 }
-                all_at(out, deep - 1, &*table, children, f, m + 1)?
+                all_at(out, deep - 1, &*table, children, first)?
             }
             Part::Ends { end } => end,
         };
-        e = end.at;
-        m = end.node;
+        here = end;
         left -= 1;
     }
-    Some(Position { at: e, node: m })
+    Some(here)
 }

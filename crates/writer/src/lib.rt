@@ -11,7 +11,7 @@ ghost use Rattle.answer.specs.Written.{Writes};
 ghost use Rattle.writer.specs.Within.{WritesWithin};
 
 use answer::refusal::{Fault, Refusal};
-use grammar::{MAX_BYTES, MAX_DEPTH, MAX_KIND};
+use grammar::{MAX_BYTES, MAX_DEPTH, MAX_KIND, Position};
 use number::token::Counts;
 
 // Writes the blob of this kind that has the table under these counts, and gives its length. A refusal leaves the output as it was.
@@ -59,7 +59,8 @@ fn write_within<const N: usize>(
     ensures { WritesWithin N kind counts table.now result out.old out.new }
 {
     let mut blob = [0u8; N];
-    let end = emission::all_at(&mut blob, MAX_DEPTH, table, 1, 0, 0)?;
+    let start = Position { at: 0, node: 0 };
+    let end = emission::all_at(&mut blob, MAX_DEPTH, table, 1, start)?;
     Some(copy_confirmed(kind, counts, &blob[..end.at], table, out))
 }
 

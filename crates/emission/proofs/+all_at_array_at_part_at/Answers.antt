@@ -11,10 +11,10 @@ use Rattle.emission.proofs.Steps.{emit-deep, emit-past, emit-array, emit-part, e
 use Rattle.emission.proofs.+all_at_array_at_part_at.Goals as goal
 use Rattle.emission.proofs.+all_at_array_at_part_at.Goals.{all_at-in-Goes+else-left-eq1+in_ok-end-in-Goes, all_at-in-Ends}
 
-pub all_at-returns-then-out-at : goal.all_at-returns-then-out-at
+pub all_at-returns-then-out-from : goal.all_at-returns-then-out-from
 unfolding ended
-all_at-returns-then-out-at t c =
-    emits_past _ _ _ c.if-out-at.true
+all_at-returns-then-out-from t c =
+    emits_past _ _ _ c.if-out-from.true
 
 pub all_at-returns-in_err-part : goal.all_at-returns-in_err-part
 unfolding ended
@@ -40,7 +40,7 @@ all_at-loop-left-preserved t c =
     let l = c.loop-left in
     let q = c.part_at.ensures in
     let end = c.match-part.end in
-    let i : Emits (emit l.deep c.args.table.now l.m) l.e (Next end.at end.node) l.out c.match-part.out = elim c.match-part.branch [
+    let i : Emits (emit l.deep c.args.table.now l.here.node) l.here.at (Next end.at end.node) l.out c.match-part.out = elim c.match-part.branch [
       | all_at-in-Goes+else-left-eq1+in_ok-end-in-Goes w ↦
           emits_as _ _ _ _ _ _ _ w.out-is (ap (λ (p : Position). Next p.at p.node) w.end-is) ((part_goes _ _ _ _ _ _ _ _ _ q (c.in_ok-part.was ∙ ap Some w.in-Goes.is)).3 _ _ w.in_ok-end-in-Goes.ensures)
       | all_at-in-Ends w ↦ emits_as _ _ _ _ _ _ _ w.out-is (ap (λ (p : Position). Next p.at p.node) w.end-is) (part_ends _ _ _ _ _ _ _ _ q (c.in_ok-part.was ∙ ap Some w.in-Ends.is))
@@ -68,35 +68,35 @@ array_at-all_at-requires-3 t c =
     let m = times_below _ _ _ (omega (arith, c.requires)) _ _ _ _ _ _ _ c.in_ok-typed.ensures refl in
     (omega (arith, c.decreases), times_below _ _ _ m _ _ _ _ _ _ _ c.in_ok-sized.ensures refl)
 
-pub array_at-returns-in_err-first : goal.array_at-returns-in_err-first
+pub array_at-returns-in_err-at : goal.array_at-returns-in_err-at
 unfolding ended
-array_at-returns-in_err-first t c =
-    rw c.from_residual.ensures (array-stop _ _ _ _ _ _ _ _ _ (spelt_over _ _ c.in_err-first.ensures) refl)
+array_at-returns-in_err-at t c =
+    rw c.from_residual.ensures (array-stop _ _ _ _ _ _ _ _ _ (spelt_over _ _ c.in_err-at.ensures) refl)
 
 pub array_at-returns-in_err-typed : goal.array_at-returns-in_err-typed
 unfolding ended
 array_at-returns-in_err-typed t c =
-    rw c.from_residual-in_err-typed.ensures (array-stop _ _ _ _ _ _ _ _ _ (spelt_then _ _ c.in_ok-first.ensures c.in_err-typed.ensures) refl)
+    rw c.from_residual-in_err-typed.ensures (array-stop _ _ _ _ _ _ _ _ _ (spelt_then _ _ c.in_ok-at.ensures c.in_err-typed.ensures) refl)
 
-pub array_at-returns-in_err-sizes : goal.array_at-returns-in_err-sizes
+pub array_at-returns-in_err-at-2 : goal.array_at-returns-in_err-at-2
 unfolding ended
-array_at-returns-in_err-sizes t c =
-    rw c.from_residual-in_err-sizes.ensures (sizes_stop _ _ _ _ _ _ _ _ _ (spelt_then _ _ c.in_ok-first.ensures c.in_ok-typed.ensures) _ _ refl _ _ (spelt_over _ _ c.in_err-sizes.ensures) refl)
+array_at-returns-in_err-at-2 t c =
+    rw c.from_residual-in_err-at-2.ensures (sizes_stop _ _ _ _ _ _ _ _ _ (spelt_then _ _ c.in_ok-at.ensures c.in_ok-typed.ensures) _ _ refl _ _ (spelt_over _ _ c.in_err-at-2.ensures) refl)
 
 pub array_at-returns-in_err-sized : goal.array_at-returns-in_err-sized
 unfolding ended
 array_at-returns-in_err-sized t c =
-    rw c.from_residual-in_err-sized.ensures (sizes_stop _ _ _ _ _ _ _ _ _ (spelt_then _ _ c.in_ok-first.ensures c.in_ok-typed.ensures) _ _ refl _ _ (spelt_then _ _ c.in_ok-sizes.ensures c.in_err-sized.ensures) refl)
+    rw c.from_residual-in_err-sized.ensures (sizes_stop _ _ _ _ _ _ _ _ _ (spelt_then _ _ c.in_ok-at.ensures c.in_ok-typed.ensures) _ _ refl _ _ (spelt_then _ _ c.in_ok-at-2.ensures c.in_err-sized.ensures) refl)
 
-pub array_at-returns-in_err-then : goal.array_at-returns-in_err-then
+pub array_at-returns-in_err-at-3 : goal.array_at-returns-in_err-at-3
 unfolding ended
-array_at-returns-in_err-then t c =
-    rw c.from_residual-in_err-then.ensures (array-next _ _ _ _ _ _ _ _ _ (spelt_then _ _ c.in_ok-first.ensures c.in_ok-typed.ensures) _ _ refl _ _ (spelt_then _ _ c.in_ok-sizes.ensures c.in_ok-sized.ensures) _ _ _ _ _ refl (omega arith) (spelt_over _ _ c.in_err-then.ensures))
+array_at-returns-in_err-at-3 t c =
+    rw c.from_residual-in_err-at-3.ensures (array-next _ _ _ _ _ _ _ _ _ (spelt_then _ _ c.in_ok-at.ensures c.in_ok-typed.ensures) _ _ refl _ _ (spelt_then _ _ c.in_ok-at-2.ensures c.in_ok-sized.ensures) _ _ _ _ _ refl (omega arith) (spelt_over _ _ c.in_err-at-3.ensures))
 
 pub array_at-returns : goal.array_at-returns
 unfolding ended
 array_at-returns t c =
-    array-next _ _ _ _ _ _ _ _ _ (spelt_then _ _ c.in_ok-first.ensures c.in_ok-typed.ensures) _ _ refl _ _ (spelt_then _ _ c.in_ok-sizes.ensures c.in_ok-sized.ensures) _ _ _ _ _ refl (omega arith) (spelt_then _ _ c.in_ok-then.ensures c.all_at-3.ensures)
+    array-next _ _ _ _ _ _ _ _ _ (spelt_then _ _ c.in_ok-at.ensures c.in_ok-typed.ensures) _ _ refl _ _ (spelt_then _ _ c.in_ok-at-2.ensures c.in_ok-sized.ensures) _ _ _ _ _ refl (omega arith) (spelt_then _ _ c.in_ok-at-3.ensures c.all_at-3.ensures)
 
 pub part_at-returns-then-d-eq0 : goal.part_at-returns-then-d-eq0
 part_at-returns-then-d-eq0 t c =

@@ -16,7 +16,7 @@ decreases-part_at l = 3 * l.d
 
 -- whatever ends the rest from here ends the whole
 abbrev pub invariant-all_at-loop-left : goal.invariant-all_at-loop-left
-invariant-all_at-loop-left l = (length l.out ≡ length l.initial.out) × (l.e ≤ length l.out) × (l.m ≤ length l.table) × (l.deep ≤ l.d) × ((r : Emit) (fin : List ℕ) → Emits (times (emit l.deep l.table) l.left l.m) l.e r l.out fin → Emits (times (emit l.d l.table) l.count l.n) l.at r l.initial.out fin)
+invariant-all_at-loop-left l = (length l.out ≡ length l.initial.out) × (l.here.at ≤ length l.out) × (l.here.node ≤ length l.table) × (l.deep ≤ l.d) × ((r : Emit) (fin : List ℕ) → Emits (times (emit l.deep l.table) l.left l.here.node) l.here.at r l.out fin → Emits (times (emit l.d l.table) l.count l.fn.from.node) l.fn.from.at r l.initial.out fin)
 
 -- a level less, or a subtree
 abbrev pub decreases-all_at-loop-left : goal.decreases-all_at-loop-left
