@@ -2,10 +2,12 @@
 -- Assumes nothing.
 use Prim.Native.Nat.{ℕ, ◌≤◌, ◌<◌}
 use mathlib.Core.Path.{◌≡◌, refl, sym, ◌∙◌}
-use mathlib.Core.Bool.{Bool, true, false, cond, ◌||◌}
+use mathlib.Core.Bool.{Bool, true, false, cond, not, ◌||◌}
 use mathlib.Core.List.{List, [], ◌∷◌}
-use lib.Dec.{eqb}
+use lib.Dec.{T, eqb}
 use denote.Enum.Declared.{tag_of}
+use mir.Val.{has_key}
+use types.Run.{OneOf, miss}
 use Rattle.element.specs.contracts.Place.{the_type}
 use Rattle.element.specs.declared.Place.{Place}
 use Rattle.element.specs.declared.Form.{Form}
@@ -43,6 +45,19 @@ of_types a f p = cond (is_type_place p) (f p) a
 
 pub at_type : {A : Type 0} (a : A) (f g : Place → A) → each (of_types a f) places ≡ each (of_types a g) places → (p : Place) → is_type_place p ≡ true → f p ≡ g p
 at_type a f g e p t = rw t at (at_place (of_types a f) (of_types a g) e p)
+
+-- a match that names all other places leaves them to `_`
+abbrev pub type_place_tags : List Place → List ℕ
+type_place_tags [] = []
+type_place_tags (p ∷ ps) = cond (is_type_place p) (tag_of the_type p ∷ type_place_tags ps) (type_place_tags ps)
+
+pub left-types : (p : Place) → OneOf (type_place_tags places) (tag_of the_type p) → is_type_place p ≡ true
+unfolding form_of entries bare leads places
+left-types p h = go (is_type_place p) (λ n. miss (type_place_tags places) (tag_of the_type p) (rw (at_place (λ q. not (has_key (type_place_tags places) (tag_of the_type q))) (λ q. not (is_type_place q)) refl p) n) h)
+  where
+    go : (t : Bool) → (T (not t) → ⊥) → t ≡ true
+    go true n = refl
+    go false n = absurd (n tt)
 
 module _ (p : Place) (t : is_type_place p ≡ true) where
   -- the bytes from lo up to, not including, hi have the form of the first, if no place's entries cut them
