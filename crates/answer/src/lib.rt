@@ -16,6 +16,7 @@ pub const MAX_SIZE: usize = 512;
 pub const WORDS: usize = 16;
 
 // A number, 0 for done, with its place: how many nodes or bytes there are, or where a refusal stands.
+// Kept: the pair that C gets as one number; contracts speak of it by `panel_of`.
 #[derive(Clone, Copy, Debug, PartialEq, Eq)]
 pub struct Answer {
     pub code: u32,

@@ -33,7 +33,7 @@ pub enum Place {
 // What follows a code byte.
 #[derive(Clone, Copy, Debug, PartialEq, Eq)]
 pub enum Form {
-    // the byte is not allowed in its place
+    // the byte is not allowed in its place; kept, and no Option around the rest, since 01's table gives each byte one of these
     Refused,
     // nothing
     Leaf,

@@ -1,5 +1,5 @@
 // The bytes of a node table, from its records alone. Nothing of the table is trusted: what is emitted counts only once it was judged.
-// Slices are passed on as reborrows, for speed, as in crate `walk`.
+// Slices are passed on as reborrows, for speed.
 #![tactic(auto)]
 
 ghost use Rattle.std.specs.Prelude.{◌≡◌, ◌++◌, ◌+◌, ◌*◌, ◌≤◌, ◌<◌, length};
@@ -143,6 +143,7 @@ fn array_at(out: &mut [u8], d: usize, table: &[u32], rec: Node, here: Position) 
 }
 
 // `count` subtrees one after the other; none from an offset past the end on. The children of the last of them are the next of the loop, one level down.
+// Kept: `while`, since those children's count takes the place of the one left.
 #[cycle(all_at_array_at_part_at)]
 pub fn all_at(
     out: &mut [u8],

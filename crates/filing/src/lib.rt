@@ -14,7 +14,7 @@ use number::token::Counts;
 
 mod named;
 
-// Why a blob is refused, as the register keeps it: the refusal's number and place.
+// Why a blob is refused, as the register keeps it: the refusal's number and place. Kept: numbers, narrow ones, for 512 rows' keeping.
 #[derive(Clone, Copy, Debug, PartialEq, Eq)]
 pub struct Refused {
     pub code: u8,

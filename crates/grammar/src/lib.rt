@@ -40,6 +40,7 @@ pub const SIZE: u32 = 0x104;
 pub const LOW: u32 = 0x105;
 
 // One record of the node table.
+// Kept: kinds are numbers, as in the flat table, whose records may hold any; so are the kinds of blobs, of which an unknown one is answered.
 #[derive(Clone, Copy, Debug, PartialEq, Eq)]
 pub struct Node {
     // the element byte, or a number from 100 hex up for a node that has none

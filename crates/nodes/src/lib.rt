@@ -45,6 +45,7 @@ fn read_within(
 }
 
 // Copies the first `count` records of the flat table to the front of `records`.
+// Kept: an index, since record i is six numbers of the table, which `record_at` finds by it.
 fn copy_records(table: &[u32], records: &mut [Node], count: usize)
     requires { (6 * count ≤ length table.now) × (count ≤ length records.old) }
     ensures { records.new ≡ copy_records table.now count records.old }

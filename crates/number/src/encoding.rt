@@ -6,6 +6,7 @@ ghost use Rattle.number.specs.Number.{encode, put_at};
 const LIMIT: u32 = crate::MAX_NUMBER + 1;
 
 // How many bytes the encoding of `v` has: 0 where it has none.
+// Kept: 0 and no Option, here and in `put_number`, since the contract is the length of `encode v`, which is no bytes there.
 pub fn number_len(v: u32) -> usize
     ensures { result ≡ length (encode v) }
 {

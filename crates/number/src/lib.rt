@@ -37,6 +37,7 @@ fn byte(s: &[u8], at: usize) -> u32
 }
 
 // A number whose first byte, at `at`, says that it has two bytes.
+// Kept: apart from `four_bytes`, since mask, least value and sum all differ; one function would take all three, or loop over the bytes.
 fn two_bytes(s: &[u8], at: usize) -> Result<Number, NumberError>
     requires { at < length s.now }
     ensures { result ≡ whole s.now at 2 0x80 (value2 s.now at) }

@@ -35,6 +35,7 @@ pub fn no_counts() -> Counts
 }
 
 // A token is its row times 4 plus its tag.
+// Kept: tags are numbers, since `token_at` answers for any number of tags.
 pub fn tag_of(token: u32) -> u32
     ensures { result ≡ tag_of token }
 {

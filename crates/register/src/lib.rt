@@ -1,4 +1,4 @@
-// The register of the TypeSpec rows of one module, a struct by value, with the sets of rows that its
+// The register of the TypeSpec rows of one module, a struct of one size, with the sets of rows that its
 // rows name in numbers that the caller lends: the same at each call from the opening on, WORDS to a
 // row. Row r has the index r - 1.
 #![tactic(auto)]

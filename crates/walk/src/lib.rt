@@ -53,6 +53,7 @@ fn type_at(
 
 // `count` types one after the other, the first in one place and the rest in another. A type without children takes no call, and nodes with one
 // child each are a chain that is walked in the loop: as many of them are open as levels are used.
+// Kept: `while`, since a chain's node puts its child in its own place and takes none off the count.
 #[cycle(array_at_fn_ptr_at_list_at_method_at_signature_types_at_type_at_types_at)]
 fn types_at(
     out: &mut [u32],
