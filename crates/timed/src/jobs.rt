@@ -56,7 +56,10 @@ fn filled(graph: Graph, rows: u32, sets: &mut [u32]) -> Register {
 // Asks each row, one after the other.
 fn ask_all(g: Register, sets: &[u32]) -> u64 {
     (1..=g.counts.specs as usize).fold(0u64, |sum, row| {
-        sum.wrapping_add(g.ask(row, sets).map_or(0, |asked| u64::from(asked.standing)))
+        sum.wrapping_add(
+            g.ask(row, sets)
+                .map_or(0, |asked| u64::from(asked.standing)),
+        )
     })
 }
 
