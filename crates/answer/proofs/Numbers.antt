@@ -1,6 +1,5 @@
 -- The number of a refusal is not 0, which is "done".
 -- Assumes nothing.
-use Prim.Native.Nat.{ℕ}
 use mathlib.Core.Path.{◌≡◌}
 use native.Mathlib.Omega.{arith}
 use Rattle.answer.specs.Refusal.{number_of}

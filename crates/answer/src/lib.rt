@@ -82,7 +82,7 @@ pub fn check_call(lent: usize, rows: usize, row: usize) -> Result<(), Refusal>
 }
 
 // Whether a row of this standing and mark can be acknowledged.
-// Kept: numbers, here and in asked_of, for the fields of a register are pub and may hold any.
+// Kept: numbers, here and in asked_of: states, findings, places and marks are pub fields of a register, which may hold any, and docs name both.
 #[tactic(auto, unfolding(crate::specs::Answers::ack_code))]
 pub fn check_acknowledgement(standing: u8, mark: u8) -> Result<(), Refusal>
     ensures { number_in result ≡ ack_code standing mark }

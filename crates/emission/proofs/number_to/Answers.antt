@@ -1,13 +1,7 @@
 -- `emission::number_to` meets its contract. Assumes nothing.
 use native.Mathlib.Omega.{arith}
-use Rattle.emission.proofs.Laws.{number_cut, number_put}
+use Rattle.emission.proofs.Laws.{number_put}
 use Rattle.emission.proofs.number_to.Goals as goal
-
-pub returns-then-out-len : goal.returns-then-out-len
-returns-then-out-len c = number_cut _ _ _ (omega (arith, c.number_len-len.ensures))
-
-pub returns-then-out-len-2 : goal.returns-then-out-len-2
-returns-then-out-len-2 c = number_cut _ _ _ (omega (arith, c.if-out-len.false, c.number_len-len.ensures))
 
 pub returns : goal.returns
 returns c =

@@ -1,9 +1,6 @@
 -- `nodes::read_within` meets its contract: the reader is lent a prefix of the table, or the whole. Assumes nothing.
-use Rattle.nodes.proofs.Answers.{prefix_length, within-prefix, within-whole}
+use Rattle.nodes.proofs.Answers.{within-prefix, within-whole}
 use Rattle.nodes.proofs.read_within.Goals as goal
-
-pub slice_bounds-read-end-then-most-table : goal.slice_bounds-read-end-then-most-table
-slice_bounds-read-end-then-most-table c = prefix_length c.args.table.now _ c.if-most-table.true
 
 pub returns-then-most-table : goal.returns-then-most-table
 returns-then-most-table c =

@@ -2,8 +2,5 @@
 use native.Mathlib.Omega.{arith}
 use Rattle.number.proofs.byte.Goals as goal
 
-pub overflow_cast-result : goal.overflow_cast-result
-overflow_cast-result c = omega (arith, c.type_inv.s c.args.at)
-
 pub returns : goal.returns
 returns c = omega (arith, c.type_inv.s c.args.at)

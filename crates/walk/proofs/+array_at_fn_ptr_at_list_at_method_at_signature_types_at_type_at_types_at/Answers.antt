@@ -12,7 +12,7 @@ use Rattle.opening.specs.Walk.{Walked}
 use Rattle.grammar.specs.declared.Position.{Position}
 use Rattle.opening.proofs.Walks.{seal_put, found, walked_as, walked_length, walked_next, walked_first, series-end, ends-series}
 use Rattle.walk.specs.Series.{end_of}
-use Rattle.walk.proofs.Laws.{pending_item, pending_link, pending_end, pending_is, fewer_levels, fewer_items, array-stop, array-cut, array-small, array-done}
+use Rattle.walk.proofs.Laws.{pending_item, pending_link, pending_end, pending_is, fewer_levels, array-stop, array-cut, array-small, array-done}
 use Rattle.walk.proofs.Steps.{type_stop, open_bounds, leaf-done, one-bounds, one-node, below_node, series-ended, series-stopped, series-as, below-cut, below-few, below-done, walked_to, listed, one-walked, signature-bounds, signature-stop, signature-led, signature-done}
 use Rattle.walk.proofs.+array_at_fn_ptr_at_list_at_method_at_signature_types_at_type_at_types_at.Goals as goal
 use Rattle.walk.proofs.+array_at_fn_ptr_at_list_at_method_at_signature_types_at_type_at_types_at.Goals.{types_at-in-Leaf, types_at-in-List+in_ok-end-in-List, types_at-in-FnPtr+in_ok-end-in-FnPtr, types_at-in-Array+in_ok-end-in-Array}
@@ -107,11 +107,6 @@ unfolding form_of entries bare leads
 method_at-returns t c =
     signature-led _ _ _ _ _ _ refl _ c.fn_ptr_lead_at.ensures _ c.in_ok-lead.was _ _ _ c.signature_types_at.ensures
 
-pub signature_types_at-types_at-requires : goal.signature_types_at-types_at-requires
-unfolding form_of entries bare leads
-signature_types_at-types_at-requires t c =
-    (omega (arith, c.decreases), c.requires.places)
-
 pub signature_types_at-returns-in_err-types : goal.signature_types_at-returns-in_err-types
 unfolding form_of entries bare leads ended end_of
 signature_types_at-returns-in_err-types t c =
@@ -128,11 +123,6 @@ unfolding form_of entries bare leads ended end_of
 signature_types_at-returns t c =
     signature-done _ _ _ _ _ _ _ _ _ (below-done _ _ _ _ _ _ _ c.types_at.ensures.walked _ _ (ap end_of c.in_ok-types.was) _ (rw (c.head_of-head.ensures, c.types_at.ensures.counted _ c.in_ok-types.was) at c.seal.ensures))
 
-pub type_at-types_at-requires : goal.type_at-types_at-requires
-unfolding form_of entries bare leads
-type_at-types_at-requires t c =
-    let q = c.requires in (omega (arith, c.decreases), (q, q))
-
 pub type_at-returns-in_err-types : goal.type_at-returns-in_err-types
 unfolding form_of entries bare leads ended end_of
 type_at-returns-in_err-types t c =
@@ -148,11 +138,6 @@ pub types_at-loop-left-init : goal.types_at-loop-left-init
 unfolding form_of entries bare leads
 types_at-loop-left-init t c =
     (refl, c.requires.0, omega arith, omega arith, λ h. pending_item _ _ _ _ _ _ _ _ h (omega arith) (ends-node _ _ _ _ _ _) (λ r fin y. y), λ h. series-end _ _ _ _ _ _ h)
-
-pub types_at-open_at-requires : goal.types_at-open_at-requires
-unfolding form_of entries bare leads
-types_at-open_at-requires t c =
-    c.loop-left.invariant.1
 
 pub types_at-returns-in_err-open : goal.types_at-returns-in_err-open
 unfolding form_of entries bare leads
@@ -255,21 +240,6 @@ types_at-returns-in_err-end-in-Array t c =
     let e : c.from_residual-in_err-end-in-Array.result ≡ Err c.in_err-end-in-Array.field-0.0 = search rules in
     let i = below_node _ _ _ _ _ _ c.loop-left.invariant.1 _ c.open_at.ensures _ (c.in_ok-open.was ∙ ap Ok c.in-Array.is) _ _ _ c.array_at.ensures in
     series-as _ _ _ _ _ _ _ e (series-stopped _ _ _ _ _ _ ((c.loop-left.invariant.4 c.loop-left-test.true).stops _ _ i _ _ (ap ended c.in_err-end-in-Array.was)))
-
-pub types_at-overflow_sub-d : goal.types_at-overflow_sub-d
-unfolding form_of entries bare leads
-types_at-overflow_sub-d t c =
-    c.loop-left.invariant.2
-
-pub types_at-loop-left-smaller : goal.types_at-loop-left-smaller
-unfolding form_of entries bare leads
-types_at-loop-left-smaller t c =
-    fewer_items _ _ _ c.loop-left-test.true
-
-pub types_at-shape_of-out : goal.types_at-shape_of-out
-unfolding form_of entries bare leads
-types_at-shape_of-out t c =
-    c.loop-left.invariant.0
 
 pub types_at-returns : goal.types_at-returns
 unfolding form_of entries bare leads

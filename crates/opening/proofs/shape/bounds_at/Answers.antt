@@ -11,12 +11,6 @@ use Rattle.opening.proofs.Shapes.{ends-bound_at}
 use Rattle.opening.proofs.Walks.{loop_stop, loop_more, loop_end}
 use Rattle.opening.proofs.shape.bounds_at.Goals as goal
 
-pub loop-init : goal.loop-init
-loop-init c r fin y =
-    let a = c.args in
-    let z : a.count - 0 ≡ a.count = omega arith in
-    subst (λ (k : ℕ). Walked (many (bound_at a.kind a.d a.src.now.bytes.now) k a.from.at a.from.node) a.from.node r a.out.now fin) z y
-
 pub returns-in_err-end : goal.returns-in_err-end
 unfolding ended
 returns-in_err-end c =

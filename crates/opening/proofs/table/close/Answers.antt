@@ -6,12 +6,6 @@ use Rattle.opening.specs.Table.{put_after, close_of}
 use Rattle.opening.proofs.Stamp.{closes_more, closes_end}
 use Rattle.opening.proofs.table.close.Goals as goal
 
-pub loop-i-init : goal.loop-i-init
-loop-i-init c =
-    let a = c.args in
-    let e : a.n - (a.n - a.k) ≡ a.k = omega arith in
-    ap (λ (j : ℕ). close_of a.out.now a.n j c.size32-last.result) e
-
 pub loop-i-preserved : goal.loop-i-preserved
 loop-i-preserved c =
     let l = c.loop-i in

@@ -17,9 +17,6 @@ pub returns-then-src-gt-MAX_BYTES : goal.returns-then-src-gt-MAX_BYTES
 returns-then-src-gt-MAX_BYTES c =
     rw c.at-then-src-gt-MAX_BYTES.ensures (too_long _ _ _ _ c.if-kind-gt-MAX_KIND.false (sym c.known_counts.ensures ∙ c.if-not-known_counts.false) c.if-src-gt-MAX_BYTES.true)
 
-pub root_at-requires : goal.root_at-requires
-root_at-requires c = c.if-src-gt-MAX_BYTES.false
-
 pub returns-in_err-end : goal.returns-in_err-end
 unfolding ended
 returns-in_err-end c =
