@@ -8,9 +8,6 @@ use lib.Dec.{ltb, eqb}
 use borrow.Author.Tests.{le-ltb, ltb-false, eqb-true, eqb-false}
 use Rattle.answer.specs.Size.{max_size, words}
 use Rattle.answer.specs.Answers.{row_code, admit_code}
-use Rattle.answer.specs.Refusal.{number_of}
-use Rattle.answer.specs.declared.refusal.Refusal.{Refusal}
-use Rattle.answer.specs.declared.refusal.Refusal.TheVariants.{BlobTooLong, BytesEnd, MalformedNumber, CountOutOfRange, ByteNotAllowed, TooDeep, WrongTag, RowOutOfRange, BytesLeft, TooManyNodes, TooFewRecords, UnknownKind, TableTooLarge, NoBlob, OutputTooShort, NoSuchRow, NothingToAcknowledge, AlreadyMarked, SizeOutOfRange, TooFewWords}
 
 pub record InRow (rows row : ℕ) : Type 0 where
   pub low : 1 ≤ row
@@ -54,26 +51,3 @@ by_code P {x} {y} n zero-case else-case = go (eqb n 0) refl
     go : (t : Bool) → eqb n 0 ≡ t → P (cond t x y)
     go true e = zero-case (eqb-true n 0 e)
     go false e = else-case (eqb-false n 0 e)
-
--- no refusal's number is 0
-pub refused : (r : Refusal) → number_of r ≡ 0 → ⊥
-refused BlobTooLong h = omega arith
-refused BytesEnd h = omega arith
-refused MalformedNumber h = omega arith
-refused CountOutOfRange h = omega arith
-refused ByteNotAllowed h = omega arith
-refused TooDeep h = omega arith
-refused WrongTag h = omega arith
-refused RowOutOfRange h = omega arith
-refused BytesLeft h = omega arith
-refused TooManyNodes h = omega arith
-refused TooFewRecords h = omega arith
-refused UnknownKind h = omega arith
-refused TableTooLarge h = omega arith
-refused NoBlob h = omega arith
-refused OutputTooShort h = omega arith
-refused NoSuchRow h = omega arith
-refused NothingToAcknowledge h = omega arith
-refused AlreadyMarked h = omega arith
-refused SizeOutOfRange h = omega arith
-refused TooFewWords h = omega arith

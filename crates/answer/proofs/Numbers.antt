@@ -6,24 +6,24 @@ use Rattle.answer.specs.Refusal.{number_of}
 use Rattle.answer.specs.declared.refusal.Refusal.{Refusal}
 use Rattle.answer.specs.declared.refusal.Refusal.TheVariants.{BlobTooLong, BytesEnd, MalformedNumber, CountOutOfRange, ByteNotAllowed, TooDeep, WrongTag, RowOutOfRange, BytesLeft, TooManyNodes, TooFewRecords, UnknownKind, TableTooLarge, NoBlob, OutputTooShort, NoSuchRow, NothingToAcknowledge, AlreadyMarked, SizeOutOfRange, TooFewWords}
 
-pub no-refusal : (r : Refusal) → number_of r ≡ 0 → ⊥
-no-refusal BlobTooLong e = omega arith
-no-refusal BytesEnd e = omega arith
-no-refusal MalformedNumber e = omega arith
-no-refusal CountOutOfRange e = omega arith
-no-refusal ByteNotAllowed e = omega arith
-no-refusal TooDeep e = omega arith
-no-refusal WrongTag e = omega arith
-no-refusal RowOutOfRange e = omega arith
-no-refusal BytesLeft e = omega arith
-no-refusal TooManyNodes e = omega arith
-no-refusal TooFewRecords e = omega arith
-no-refusal UnknownKind e = omega arith
-no-refusal TableTooLarge e = omega arith
-no-refusal NoBlob e = omega arith
-no-refusal OutputTooShort e = omega arith
-no-refusal NoSuchRow e = omega arith
-no-refusal NothingToAcknowledge e = omega arith
-no-refusal AlreadyMarked e = omega arith
-no-refusal SizeOutOfRange e = omega arith
-no-refusal TooFewWords e = omega arith
+pub not_done : (r : Refusal) → number_of r ≡ 0 → ⊥
+not_done BlobTooLong e = omega arith
+not_done BytesEnd e = omega arith
+not_done MalformedNumber e = omega arith
+not_done CountOutOfRange e = omega arith
+not_done ByteNotAllowed e = omega arith
+not_done TooDeep e = omega arith
+not_done WrongTag e = omega arith
+not_done RowOutOfRange e = omega arith
+not_done BytesLeft e = omega arith
+not_done TooManyNodes e = omega arith
+not_done TooFewRecords e = omega arith
+not_done UnknownKind e = omega arith
+not_done TableTooLarge e = omega arith
+not_done NoBlob e = omega arith
+not_done OutputTooShort e = omega arith
+not_done NoSuchRow e = omega arith
+not_done NothingToAcknowledge e = omega arith
+not_done AlreadyMarked e = omega arith
+not_done SizeOutOfRange e = omega arith
+not_done TooFewWords e = omega arith

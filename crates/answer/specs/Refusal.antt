@@ -41,7 +41,7 @@ number_of NoSuchRow = 16
 number_of NothingToAcknowledge = 17
 -- "already marked"
 number_of AlreadyMarked = 18
--- "opening with a size not 1..64; any other call on a size above 64"
+-- "opening with a size not 1..64; any other call on a size above 64"; document 02, wish 8, has 512 for 64
 number_of SizeOutOfRange = 19
 -- "too little, that is fewer than 16 32-bit numbers for each row"
 number_of TooFewWords = 27

@@ -16,7 +16,7 @@ use register::MAX_SIZE;
 
 impl Rows {
     // Marks a row, or answers why not.
-    #[tactic(auto, using(answer::proofs::Admits::row_ok, answer::proofs::Admits::refused), unfolding(crate::specs::Acks::ack_row_code, crate::specs::Acks::ack_row_marks))]
+    #[tactic(auto, using(answer::proofs::Admits::row_ok, answer::proofs::Numbers::not_done), unfolding(crate::specs::Acks::ack_row_code, crate::specs::Acks::ack_row_marks))]
     fn acknowledge(&self, marks: &mut [u8; MAX_SIZE], row: u32) -> Result<(), Refusal>
         ensures code { number_in result
             ≡ ack_row_code self.now.standings self.now.register.counts.specs marks.old row }

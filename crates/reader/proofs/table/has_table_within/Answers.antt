@@ -5,7 +5,7 @@ use native.Mathlib.Omega.{arith}
 use lib.ListN.{take, length-replicate}
 use borrow.Author.Tests.{ne_eqb}
 use Rattle.grammar.specs.Writer.{same_numbers}
-use Rattle.answer.proofs.Numbers.{no-refusal}
+use Rattle.answer.proofs.Numbers.{not_done}
 use Rattle.reader.proofs.Tables.{equal-same, has-not, has-few, has_other, has_same}
 use Rattle.reader.proofs.table.has_table_within.Goals as goal
 
@@ -25,4 +25,4 @@ returns-else-nodes-table g c =
     ne_eqb _ _ c.if-nodes-table.false ∙ has_other _ _ _ _ _ _ c.in-Ok.ensures _ refl c.if-nodes-table.false
 
 pub returns-in-Err : goal.returns-in-Err
-returns-in-Err g c = has-not _ _ _ _ _ _ c.in-Err.ensures _ (no-refusal _)
+returns-in-Err g c = has-not _ _ _ _ _ _ c.in-Err.ensures _ (not_done _)

@@ -2,7 +2,7 @@
 use borrow.Author.Tests.{eq-eqb, ne_eqb}
 use mathlib.Core.Path.{sym}
 use Rattle.std.proofs.lemmas.Result.{err_from_is_err_and}
-use Rattle.answer.proofs.Admits.{refused}
+use Rattle.answer.proofs.Numbers.{not_done}
 use Rattle.register.specs.Calls.{ask_at, ask_of}
 use Rattle.register.proofs.Register.ask.Goals as goal
 
@@ -10,7 +10,7 @@ pub returns-in_err-i : goal.returns-in_err-i
 unfolding ask_of
 returns-in_err-i c =
     let p = err_from_is_err_and c.from_residual.result c.from_residual.ensures.1 in
-    rw (p.1, p.2) (simp (← c.in_err-i.ensures.code, ne_eqb _ _ (refused c.in_err-i.field-0.0)))
+    rw (p.1, p.2) (simp (← c.in_err-i.ensures.code, ne_eqb _ _ (not_done c.in_err-i.field-0.0)))
 
 pub returns : goal.returns
 unfolding ask_at ask_of
