@@ -2,7 +2,7 @@
 // reader and held against the table, and only then copied to the output.
 #![tactic(auto)]
 
-ghost use Rattle.std.specs.Prelude.{◌≤◌, length};
+ghost use Rattle.std.specs.Prelude.{◌≡◌, ◌++◌, ◌≤◌, length, drop};
 ghost use Rattle.grammar.specs.Limits.{max_bytes};
 ghost use Rattle.grammar.specs.Emit.{wrote, emitted};
 ghost use Rattle.grammar.specs.Writer.{confirmed, writing};
@@ -13,6 +13,17 @@ ghost use Rattle.writer.specs.Within.{WritesWithin};
 use answer::refusal::{Fault, Refusal};
 use grammar::{MAX_BYTES, MAX_DEPTH, MAX_KIND, Position};
 use number::token::Counts;
+
+// Copies `src` to the front of `out`.
+// Kept: byte by byte, since `copy_from_slice` has the archive ask its C host for `memmove`, which it did not need.
+fn copy_to(out: &mut [u8], src: &[u8])
+    requires { length src.now ≤ length out.old }
+    ensures { out.new ≡ src.now ++ drop (length src.now) out.old }
+{
+    for i in 0..src.len() {
+        out[i] = src[i];
+    }
+}
 
 // Writes the blob of this kind that has the table under these counts, and gives its length. A refusal leaves the output as it was.
 pub fn write(kind: u32, counts: Counts, table: &[u32], out: &mut [u8]) -> Result<usize, Fault>
@@ -81,6 +92,6 @@ fn copy_confirmed(
     if out.len() < len {
         return Err(Refusal::OutputTooShort.at(len));
     }
-    out[..len].copy_from_slice(blob);
+    copy_to(out, blob);
     Ok(len)
 }

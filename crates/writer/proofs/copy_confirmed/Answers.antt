@@ -1,7 +1,5 @@
 -- `writer::copy_confirmed` meets its contract. Assumes nothing.
-use Rattle.std.proofs.Common.{ℕ, List, ◌++◌, length}
-use mathlib.Core.Path.{sym, ap, ◌∙◌}
-use lib.ListN.{drop}
+use mathlib.Core.Path.{sym, ◌∙◌}
 use Rattle.writer.proofs.Verdicts.{copy_not, copy_short, copy_done}
 use Rattle.writer.proofs.copy_confirmed.Goals as goal
 
@@ -12,4 +10,4 @@ pub returns-then-out-len : goal.returns-then-out-len
 returns-then-out-len c = rw c.at-then-out-len.ensures (copy_short _ _ _ _ _ (sym c.if-not-has_table.false ∙ c.has_table.ensures) c.if-out-len.true)
 
 pub returns : goal.returns
-returns c = copy_done _ _ _ _ c.args.out.now (sym c.if-not-has_table.false ∙ c.has_table.ensures) _ c.if-out-len.false (ap (λ (l : List ℕ). l ++ drop (length c.args.blob.now) c.args.out.now) c.copy_from_slice.ensures.after)
+returns c = copy_done _ _ _ _ c.args.out.now (sym c.if-not-has_table.false ∙ c.has_table.ensures) _ c.if-out-len.false c.copy_to.ensures
