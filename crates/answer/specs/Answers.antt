@@ -6,6 +6,7 @@ use Rattle.answer.specs.declared.refusal.Refusal.{Refusal}
 use Rattle.answer.specs.declared.refusal.Fault.{Fault}
 use Rattle.answer.specs.declared.Answer.{Answer}
 use Rattle.answer.specs.declared.Asked.{Asked}
+use Rattle.answer.specs.declared.Told.{Told}
 
 -- a number and its place
 abbrev pub answer : (code place : ℕ) → Answer
@@ -35,13 +36,6 @@ unfoldable pub ack_code : (standing mark : ℕ) → ℕ
 ack_code standing mark = cond (eqb standing 0 || eqb standing 4) 17 (cond (eqb mark 0) 0 18)
 
 -- what asking answers: a number, with the row's standing, finding, place and mark
-pub record Told : Type 0 where
-  pub code : ℕ
-  pub standing : ℕ
-  pub finding : ℕ
-  pub place : ℕ
-  pub mark : ℕ
-
 abbrev pub told : (code standing finding place mark : ℕ) → Told
 told code standing finding place mark = record { code = code; standing = standing; finding = finding; place = place; mark = mark }
 

@@ -46,6 +46,16 @@ pub struct Asked {
     pub mark: u32,
 }
 
+// What asking a row answers: a number, 0 for done, with what it gives, which is four 0 on a refusal.
+#[derive(Clone, Copy, Debug, PartialEq, Eq)]
+pub struct Told {
+    pub code: u32,
+    pub standing: u32,
+    pub finding: u32,
+    pub place: usize,
+    pub mark: u32,
+}
+
 // The number of what a call of the register answers: 0 for done, or the refusal's.
 pub fn number_in<T>(told: &Result<T, Refusal>) -> u32
     ensures { result ≡ number_in told.now }

@@ -64,15 +64,14 @@ impl<'a, P: Print> Session<'a, P> {
 
     // The answer, then standing, finding, place and mark.
     pub fn ask(&self, row: usize) -> io::Result<()> {
-        let told = self.register.ask(row, self.sets);
-        print!(self.rt; "ask {row}: {} ", number_in(&told))?;
-        match told {
-            Ok(asked) => {
-                let name = name_of(asked.standing);
-                println!(self.rt; "{name} {} {} {}", asked.finding, asked.place, asked.mark)
-            }
-            Err(_) => println!(self.rt; "0 0 0 0"),
+        let told = self.register.report(row, self.sets);
+        print!(self.rt; "ask {row}: {} ", told.code)?;
+        if told.code == 0 {
+            print!(self.rt; "{}", name_of(told.standing))?;
+        } else {
+            print!(self.rt; "{}", told.standing)?;
         }
+        println!(self.rt; " {} {} {}", told.finding, told.place, told.mark)
     }
 
     // Asks rows 1 to `last`.

@@ -8,7 +8,7 @@ use lib.ListN.{length}
 use lib.Dec.{eqb}
 use borrow.Author.Tests.{eqb-true, eqb-false}
 use Rattle.number.specs.declared.token.Counts.{Counts}
-use Rattle.answer.specs.Answers.{Told}
+use Rattle.answer.specs.declared.Told.{Told}
 use Rattle.register.specs.Calls.{Held}
 use Rattle.register.specs.Model.{Model, Call, filing, acknowledging, asking, report, standing_m, row_code_m, answer_m}
 use Rattle.register.specs.Demand.{asks, report_of, answer_r, but_mark, after_r, after_m, Demand3}

@@ -11,7 +11,7 @@ use Rattle.number.specs.Token.{no_counts}
 use Rattle.number.specs.declared.token.Counts.{Counts}
 use Rattle.grammar.specs.Refusals.{among}
 use Rattle.answer.specs.Size.{max_size, words}
-use Rattle.answer.specs.Answers.{Told}
+use Rattle.answer.specs.declared.Told.{Told}
 use Rattle.answer.specs.Answers.{row_code, admit_code, ack_code, told}
 use Rattle.answer.proofs.Admits.{by_code}
 use Rattle.register.specs.declared.Register.{Register}

@@ -12,7 +12,8 @@ use Rattle.grammar.specs.Judge.{Out}
 use Rattle.answer.specs.Size.{max_size, words}
 use Rattle.filing.specs.Outcome.{state_of, code_of, place_of}
 use Rattle.filing.specs.Named.{named_by}
-use Rattle.answer.specs.Answers.{Told, admit_code, ack_code, told, asked_of}
+use Rattle.answer.specs.Answers.{admit_code, ack_code, told, asked_of}
+use Rattle.answer.specs.declared.Told.{Told}
 use Rattle.register.specs.declared.Register.{Register}
 -- passed on, since `file_of` goes by it
 pub use Rattle.filing.specs.Outcome.{judged}

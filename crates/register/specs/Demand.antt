@@ -3,7 +3,7 @@
 use Rattle.std.specs.Prelude.{ℕ, ◌-◌, ◌≡◌, List, [], ◌∷◌, ◌↔◌, length}
 use Rattle.reach.specs.Reach.{Reach}
 use Rattle.number.specs.declared.token.Counts.{Counts}
-use Rattle.answer.specs.Answers.{Told}
+use Rattle.answer.specs.declared.Told.{Told}
 use Rattle.register.specs.Calls.{Held, holding, held, open_of, file_of, acknowledge_of, ask_of}
 use Rattle.register.specs.Model.{Model, Call, filing, acknowledging, asking, Answer, number, report, refers_m, answer_m, answers_m, end_m, opening_m, opened_m}
 use Rattle.register.specs.History.{Stands, Marked}

@@ -10,7 +10,7 @@ ghost use Rattle.filing.specs.Outcome.{judged};
 ghost use Rattle.register.specs.Calls.{Inside, RoomFor, blank_register, left, changed, open_code, open_of, file_at, file_of, marks_after, acknowledge_at, acknowledge_of, ask_of, standing_at, standings_of};
 
 pub use answer::refusal::Refusal;
-pub use answer::{Asked, MAX_SIZE, WORDS};
+pub use answer::{Asked, MAX_SIZE, Told, WORDS};
 use answer::{asked_of, check_acknowledgement, check_call};
 use filing::judge_row;
 use grammar::MAX_ROWS;
@@ -211,6 +211,7 @@ impl Register {
     }
 
     // Marks a row that is BAD, LOOP or LEANS.
+    #[tactic(auto, using(answer::proofs::Numbers::not_done), unfolding(crate::specs::Calls::acknowledge_of))]
     pub fn acknowledge(&mut self, row: usize, sets: &[u32]) -> Result<(), Refusal>
         ensures { changed (number_in result) self.new ≡ acknowledge_of self.old row sets.now }
     {
@@ -231,5 +232,28 @@ impl Register {
             self.places[i],
             self.marks[i],
         ))
+    }
+
+    // What `ask` answers in numbers: 0 for done, with the row's four; or the refusal's, with all
+    // four 0.
+    pub fn report(&self, row: usize, sets: &[u32]) -> Told
+        ensures { result ≡ ask_of self.now row sets.now }
+    {
+        match self.ask(row, sets) {
+            Ok(asked) => Told {
+                code: 0,
+                standing: asked.standing,
+                finding: asked.finding,
+                place: asked.place,
+                mark: asked.mark,
+            },
+            Err(refusal) => Told {
+                code: refusal.into(),
+                standing: 0,
+                finding: 0,
+                place: 0,
+                mark: 0,
+            },
+        }
     }
 }

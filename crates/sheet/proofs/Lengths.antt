@@ -10,7 +10,7 @@ use lib.Dec.{eqb}
 use Rattle.number.specs.Checked.{checked_at}
 use Rattle.answer.specs.Size.{max_size}
 use Rattle.register.specs.declared.Register.{Register}
-use Rattle.answer.specs.Answers.{Told}
+use Rattle.answer.specs.declared.Told.{Told}
 use Rattle.layout.specs.Layout.{acks_from}
 use Rattle.layout.proofs.Lists.{list_length}
 use Rattle.text.specs.Numeral.{max_digits, decimal}

@@ -4,7 +4,7 @@ use Prim.Native.Nat.{ℕ, suc, ◌+◌, ◌-◌, ◌<◌}
 use mathlib.Core.Path.{◌≡◌, sym, subst}
 use mathlib.Core.List.{List}
 use native.Mathlib.Omega.{arith}
-use Rattle.answer.specs.Answers.{Told}
+use Rattle.answer.specs.declared.Told.{Told}
 use Rattle.register.specs.declared.Register.{Register}
 use Rattle.sheet.specs.Lines.{row_line}
 use Rattle.text.specs.Printing.{Prints}

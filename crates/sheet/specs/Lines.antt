@@ -1,6 +1,6 @@
 -- Document 01, "Deposit sheet": the lines that are printed, each ended by 0A, in ASCII.
 use Rattle.std.specs.Prelude.{ℕ, List, [], ◌∷◌, ◌++◌, cond, eqb}
-use Rattle.answer.specs.Answers.{Told}
+use Rattle.answer.specs.declared.Told.{Told}
 use Rattle.text.specs.Numeral.{decimal}
 
 abbrev pub newline : List ℕ

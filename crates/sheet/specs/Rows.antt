@@ -1,6 +1,7 @@
 -- Internal: the print by standings that are known and marks alone.
 use Rattle.std.specs.Prelude.{ℕ, zero, suc, ◌+◌, List, [], ◌++◌, get_or}
-use Rattle.answer.specs.Answers.{Told, asked_of}
+use Rattle.answer.specs.Answers.{asked_of}
+use Rattle.answer.specs.declared.Told.{Told}
 use Rattle.register.specs.declared.Register.{Register}
 use Rattle.sheet.specs.Lines.{header, row_line}
 use Rattle.sheet.specs.Acks.{acks_by, acked_marks}
