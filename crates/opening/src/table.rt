@@ -2,9 +2,11 @@
 ghost use Rattle.std.specs.Prelude.{◌≡◌, ◌+◌, ◌≤◌, ◌<◌};
 ghost use Rattle.grammar.specs.Limits.{max_bytes, max_nodes};
 ghost use Rattle.opening.specs.Means.{record_of};
-ghost use Rattle.opening.specs.Table.{put_of, put_after, close_of};
+ghost use Rattle.opening.specs.End.{ended};
+ghost use Rattle.opening.specs.Table.{put_of, put_after, close_of, small_of, Sealed};
 
 use crate::Head;
+use answer::refusal::Fault;
 use grammar::{Node, Position};
 
 fn size32(x: usize) -> u32
@@ -46,6 +48,22 @@ pub fn seal(out: &mut [u32], head: Head, here: Position, after: usize)
         after: end,
     };
     put(out, here.node, record);
+}
+
+// The same for a node whose children end so; their refusal is passed on, and leaves the table as it was.
+#[tactic(auto, using(crate::proofs::Walks::seal_put, crate::proofs::Walks::seal_kept), unfolding(crate::specs::End::ended))]
+pub fn seal_end(
+    out: &mut [u32],
+    head: Head,
+    here: Position,
+    end: Result<Position, Fault>,
+) -> Result<Position, Fault>
+    requires { (here.node < max_nodes) × (here.at ≤ max_bytes) × small_of (ended end) }
+    ensures { Sealed (ended end) here.node head here.at (ended result) out.old out.new }
+{
+    let end = end?;
+    seal(out, head, here, end.node);
+    Ok(end)
 }
 
 // Stores the index after a node's subtree in its record, where it fits.

@@ -21,7 +21,7 @@ use number::token::Counts;
 use opening::shape::shape_at;
 use opening::signatures::{Lead, fn_ptr_lead_at, lead_at};
 use opening::source::Source;
-use opening::table::{close, seal};
+use opening::table::{close, seal, seal_end};
 use opening::types::{Open, open_at};
 use opening::{Head, head_of};
 
@@ -153,9 +153,8 @@ fn fn_ptr_at(
         at: next,
         node: here.node + 1,
     };
-    let end = method_at(out, d, src, method)?;
-    seal(out, head, here, end.node);
-    Ok(end)
+    let end = method_at(out, d, src, method);
+    seal_end(out, head, here, end)
 }
 
 // The method below a FNPTR: its return type and its parameters are types again.

@@ -10,7 +10,7 @@ use Rattle.opening.specs.End.{Next, ended}
 use Rattle.opening.specs.Means.{on_open}
 use Rattle.opening.specs.Walk.{Walked}
 use Rattle.grammar.specs.declared.Position.{Position}
-use Rattle.opening.proofs.Walks.{seal_put, found, walked_as, walked_length, walked_next, walked_first, series-end, ends-series}
+use Rattle.opening.proofs.Walks.{seal_put, found, walked_as, walked_length, walked_seal, walked_small, walked_next, walked_first, series-end, ends-series}
 use Rattle.walk.specs.Series.{end_of}
 use Rattle.walk.proofs.Laws.{pending_item, pending_link, pending_end, pending_is, fewer_levels, array-stop, array-cut, array-small, array-done}
 use Rattle.walk.proofs.Steps.{type_stop, open_bounds, leaf-done, one-bounds, one-node, below_node, series-ended, series-stopped, series-as, below-cut, below-few, below-done, walked_to, listed, one-walked, signature-bounds, signature-stop, signature-led, signature-done}
@@ -49,21 +49,14 @@ unfolding form_of entries bare leads ended
 array_at-returns t c =
     array-done _ _ _ _ _ _ _ _ _ c.type_at.ensures _ _ (ap ended c.in_ok-typed.was) _ _ c.shape_at.ensures _ c.in_ok-shape.was _ _ (seal_put _ _ _ _ _ c.seal.ensures)
 
-pub fn_ptr_at-returns-in_err-end : goal.fn_ptr_at-returns-in_err-end
+pub fn_ptr_at-seal_end-requires : goal.fn_ptr_at-seal_end-requires
 unfolding form_of entries bare leads ended
-fn_ptr_at-returns-in_err-end t c =
-    let e : c.from_residual.result ≡ Err c.in_err-end.field-0.0 = search rules in
-    rw e (below-cut _ _ _ _ _ _ _ c.method_at.ensures _ _ (ap ended c.in_err-end.was))
-
-pub fn_ptr_at-seal-requires : goal.fn_ptr_at-seal-requires
-unfolding form_of entries bare leads ended
-fn_ptr_at-seal-requires t c =
-    (c.requires.1, omega arith, below-few _ _ c.args.head c.args.here.at _ _ _ c.method_at.ensures _ _ (ap ended c.in_ok-end.was) (ends-node _ _ _ _ _ _))
+fn_ptr_at-seal_end-requires t c =
+    (c.requires.1, omega (arith, c.requires), walked_small _ _ _ _ _ (ends-node _ _ _ _ _ _) c.method_at-end.ensures)
 
 pub fn_ptr_at-returns : goal.fn_ptr_at-returns
 unfolding form_of entries bare leads ended
-fn_ptr_at-returns t c =
-    below-done _ _ _ _ _ _ _ c.method_at.ensures _ _ (ap ended c.in_ok-end.was) _ c.seal.ensures
+fn_ptr_at-returns t c = walked_seal _ _ _ _ _ _ _ _ _ c.method_at-end.ensures c.seal_end.ensures
 
 pub list_at-types_at-requires : goal.list_at-types_at-requires
 unfolding form_of entries bare leads
