@@ -1,6 +1,8 @@
 // Cases of the reader as rows of text, one to a line: `KIND: BYTES`; with other row counts than the bench's `KIND DEFS REFS SPECS: BYTES`; with
 // other than the usual numbers lent `KIND DEFS REFS SPECS LENT: BYTES`. Numbers are decimal, bytes hexadecimal, and `XX*N` is N times the byte XX. A line
 // that starts with `#` says what follows.
+ghost use Rattle.std.specs.Prelude.{◌≤◌, IfSome, length};
+
 use crate::usual_counts;
 use number::token::{Counts, row_counts};
 
@@ -23,7 +25,9 @@ fn item_of(item: &str) -> Option<(u8, usize)> {
 }
 
 // The bytes of the items, at the front of the room; none where it is too small.
-fn bytes_of<'a>(items: &str, room: &'a mut [u8]) -> Option<&'a [u8]> {
+fn bytes_of<'a>(items: &str, room: &'a mut [u8]) -> Option<&'a [u8]>
+    ensures { IfSome result (λ bytes. length bytes.now ≤ length room.old) }
+{
     let mut length = 0;
     for item in items.split_ascii_whitespace() {
         let (byte, times) = item_of(item)?;
@@ -34,7 +38,9 @@ fn bytes_of<'a>(items: &str, room: &'a mut [u8]) -> Option<&'a [u8]> {
 }
 
 // The case of a line, its bytes put into the room; `lent` is how many numbers are lent where the line does not say.
-pub fn case_of<'a>(line: &str, lent: u32, room: &'a mut [u8]) -> Option<Case<'a>> {
+pub fn case_of<'a>(line: &str, lent: u32, room: &'a mut [u8]) -> Option<Case<'a>>
+    ensures { IfSome result (λ c. length c.blob.now ≤ length room.old) }
+{
     if line.starts_with('#') {
         return None;
     }
